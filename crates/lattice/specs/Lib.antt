@@ -1,0 +1,10 @@
+pub mod Sets
+pub mod Order
+pub mod Bounds
+pub mod Algebra
+pub mod Codes
+pub mod Refusals
+pub mod Faults
+pub mod Attributes
+pub mod Sizes
+pub mod Schemes
