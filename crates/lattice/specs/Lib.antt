@@ -6,5 +6,4 @@ pub mod Codes
 pub mod Refusals
 pub mod Faults
 pub mod Attributes
-pub mod Sizes
 pub mod Schemes

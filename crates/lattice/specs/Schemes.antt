@@ -2,10 +2,8 @@
 --   Scheme        the orders of the four attributes
 --   Lattices      each of them is a lattice
 --   scheme-sizes  their sizes
---   sizes-of      the sizes that a value of the code holds
 use Rattle.lattice.specs.Order.{Order, Lattice}
-use Rattle.lattice.specs.Sizes.{Sizes}
-use Rattle.lattice.specs.declared.sizes.Sizes.{Sizes as Held}
+use Rattle.lattice.specs.declared.sizes.Sizes.{Sizes}
 
 pub record Scheme : Type 0 where
   pub store : Order
@@ -24,6 +22,3 @@ pub record Lattices (s : Scheme) : Type 0 where
 
 abbrev pub scheme-sizes : Scheme → Sizes
 scheme-sizes s = record { store = s .store .size; purpose = s .purpose .size; role = s .role .size; types = s .types .size }
-
-abbrev pub sizes-of : Held → Sizes
-sizes-of z = record { store = z .store; purpose = z .purpose; role = z .role; types = z .types }

@@ -1,6 +1,6 @@
 //! A lattice for each of the four attributes.
 ghost use mathlib.Core.Path.{_≡_};
-ghost use Rattle.lattice.specs.Schemes.{scheme-of, scheme-sizes, sizes-of};
+ghost use Rattle.lattice.specs.Schemes.{scheme-of, scheme-sizes};
 use crate::Lattice;
 use crate::sizes::Sizes;
 
@@ -15,7 +15,7 @@ pub struct Scheme<S, P, R, T> {
 impl<S: Lattice, P: Lattice, R: Lattice, T: Lattice> Scheme<S, P, R, T> {
     /// The sizes of the four lattices.
     pub fn sizes(&self) -> Sizes
-        ensures { λ r. ⌜ sizes-of r ≡ scheme-sizes (scheme-of (S·Lattice .order (now (self .entry) .store)) (P·Lattice .order (now (self .entry) .purpose)) (R·Lattice .order (now (self .entry) .role)) (T·Lattice .order (now (self .entry) .types))) ⌝ }
+        ensures { λ r. ⌜ r ≡ scheme-sizes (scheme-of (S·Lattice .order (now (self .entry) .store)) (P·Lattice .order (now (self .entry) .purpose)) (R·Lattice .order (now (self .entry) .role)) (T·Lattice .order (now (self .entry) .types))) ⌝ }
     {
         Sizes {
             store: self.store.size(),

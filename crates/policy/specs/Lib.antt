@@ -1,0 +1,13 @@
+pub mod Clauses
+pub mod Laws
+pub mod Rules
+pub mod Records
+pub mod Verdicts
+pub mod Sized
+pub mod Decode
+pub mod Words
+pub mod Walk
+pub mod Laid
+pub mod Reads
+pub mod Stands
+pub mod Policies
