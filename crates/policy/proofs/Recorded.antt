@@ -27,7 +27,8 @@ use Rattle.policy.specs.declared.word.Word.{Word}
 use Rattle.policy.specs.declared.word.Word.the-variants.{Head, Value, Except, End, NoWord}
 use Rattle.policy.specs.Clauses.{Clause, Clauses, allow, deny, none, more, clause-count, clauses-count}
 use Rattle.policy.specs.Decode.{word-of}
-use Rattle.policy.specs.Words.{Frame, Reading, fault, fault-in, fault-outside, head-fault, advanced, ended, opened, filled, meaning, meanings}
+use Rattle.policy.specs.Labels.{filled}
+use Rattle.policy.specs.Words.{Frame, Reading, fault, fault-in, fault-outside, head-fault, advanced, ended, opened, meaning, meanings}
 use Rattle.policy.specs.Walk.{walk, listed, empty, fresh, with-value, closed, Slot, Records, recorded, top-with, top-ended, rest-of}
 use Rattle.policy.specs.Records.{clause-of, record-at}
 use Rattle.policy.specs.Laid.{Laid-clause, Laid}

@@ -1,3 +1,4 @@
+pub mod Labels
 pub mod Clauses
 pub mod Laws
 pub mod Rules

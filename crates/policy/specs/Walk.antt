@@ -21,7 +21,8 @@ use Rattle.lattice.specs.declared.refusal.Refusal.{Refusal}
 use Rattle.policy.specs.declared.word.Word.{Word}
 use Rattle.policy.specs.declared.word.Word.the-variants.{Head, Value, Except, End, NoWord}
 use Rattle.policy.specs.Decode.{word-of}
-use Rattle.policy.specs.Words.{Frame, Reading, fault, advanced, filled, ended}
+use Rattle.policy.specs.Labels.{filled}
+use Rattle.policy.specs.Words.{Frame, Reading, fault, advanced, ended}
 
 -- what is made of the words from number i on, or where they are declined
 unfoldable pub walk : {X : Type 0} → (Reading → Word → X → X) → Sizes → Reading → X → ℕ → List ℕ → Result X Refusal

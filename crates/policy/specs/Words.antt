@@ -20,6 +20,7 @@ use Rattle.policy.specs.declared.word.Word.the-variants.{Head, Value, Except, 
 use Rattle.policy.specs.declared.draft.Phase.{Phase}
 use Rattle.policy.specs.declared.draft.Phase.the-variants.{Listing, Excepting, Excepted}
 use Rattle.lattice.specs.Sets.{has}
+use Rattle.policy.specs.Labels.{filled}
 use Rattle.policy.specs.Clauses.{Clause, Clauses, allow, deny, none, more, clause-count}
 use Rattle.policy.specs.Decode.{word-of}
 
@@ -65,12 +66,6 @@ abbrev mutual
   spelled-rest (more e es) = spelled e ++ spelled-rest es
 
 -- what the words of a policy mean: an attribute left out is its top alone
-abbrev pub or-top : ℕ → ℕ → ℕ
-or-top n s = cond (eqb s 0) (2 ^ (n - 1)) s
-
-abbrev pub filled : Sizes → Label → Label
-filled z l = record { store = or-top (z .store) (l .store); purpose = or-top (z .purpose) (l .purpose); role = or-top (z .role) (l .role); types = or-top (z .types) (l .types) }
-
 abbrev mutual
   pub meaning : Sizes → Clause → Clause
   meaning z (allow l es) = allow (filled z l) (meanings z es)

@@ -4,14 +4,14 @@ ghost use Rattle.policy.specs.Records.{is-allow};
 use crate::label::Label;
 
 #[derive(Clone, Copy, PartialEq, Eq, Debug)]
-pub enum Kind {
+pub(crate) enum Kind {
     Allow,
     Deny,
 }
 
 impl Kind {
     /// Whether a clause of this kind allows where nothing speaks against it.
-    pub fn is_allow(self) -> bool
+    pub(crate) fn is_allow(self) -> bool
         ensures { λ r. ⌜ r ≡ is-allow self ⌝ }
     {
         match self {
@@ -22,9 +22,9 @@ impl Kind {
 }
 
 #[derive(Clone, Copy)]
-pub struct ClauseRecord {
-    pub kind: Kind,
-    pub list: Label,
+pub(crate) struct ClauseRecord {
+    pub(crate) kind: Kind,
+    pub(crate) list: Label,
     /// The number of the first record behind this clause and its exceptions.
-    pub end: u16,
+    pub(crate) end: u16,
 }

@@ -1,12 +1,13 @@
 //! A clause record while its words are read: its list grows, and is filled up at the end.
 ghost use mathlib.Core.Path.{_≡_};
-ghost use Prim.Native.Nat.{_<_, _≤_};
+ghost use Prim.Native.Nat.{_<_};
+ghost use Rattle.policy.specs.Labels.{filled};
 ghost use Rattle.policy.specs.Sized.{Sized};
 ghost use Rattle.policy.specs.Walk.{listed, with-value, closed, fresh};
-ghost use Rattle.policy.specs.Words.{filled, or-top};
 use crate::clause::ClauseRecord;
 use crate::clause::Kind;
 use crate::label::Label;
+use crate::label::or_top;
 use lattice::Sizes;
 
 impl Label {
@@ -23,14 +24,6 @@ impl Label {
             _ => self.types |= bit,
         }
     }
-}
-
-// The set, or the top alone where the set is empty.
-fn or_top(size: u8, set: u64) -> u64
-    requires { ⌜ 1 ≤ size ⌝ ∗ ⌜ size ≤ 64 ⌝ }
-    ensures { λ r. ⌜ r ≡ or-top size set ⌝ }
-{
-    if set == 0 { 1u64 << (size - 1) } else { set }
 }
 
 // The label with an attribute left out as the top alone.

@@ -1,5 +1,5 @@
 //! LEGALEASE policies: clauses over labels, the words that spell them, and what they allow.
-pub mod clause;
+mod clause;
 pub mod deciding;
 mod draft;
 mod faults;
@@ -11,10 +11,9 @@ mod readers;
 pub mod vocabulary;
 mod word;
 
-pub use clause::ClauseRecord;
-pub use clause::Kind;
 pub use deciding::Decision;
 pub use label::Label;
 pub use policy::Policy;
+pub use policy::judging::Verdict;
 pub use vocabulary::SchemeVocabulary;
 pub use vocabulary::Vocabulary;

@@ -5,7 +5,7 @@ ghost use Rattle.policy.specs.Records.{Nested};
 use crate::clause::ClauseRecord;
 use lattice::Sizes;
 
-mod judging;
+pub mod judging;
 mod reading;
 
 /// A policy. Its clause is that of the first record; records past the count count for nothing.

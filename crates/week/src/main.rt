@@ -1,20 +1,23 @@
-//! One week of a privacy office: the lattice of its stores, and what it answers.
-use lattice::Ladder;
-use lattice::LadderLattice;
-use lattice::Lattice;
-use lattice::Refusal;
+//! One week of a privacy office: its lattices and its policy are read, and six jobs are judged by what they would hold.
+mod jobs;
+mod office;
+mod show;
+
 use lattice::RefusalDisplay;
+use policy::Policy;
 use std::error::AnyError;
 
-fn stores(rt: &impl Print, levels: usize) -> Result<(), AnyError> {
-    match Ladder::new(levels) {
-        Ok(ladder) => println!(rt, "stores: a ladder of {} levels", ladder.size())?,
-        Err(refusal) => println!(rt, "stores: {refusal}")?,
-    }
-    Ok(())
-}
-
 fn main(rt: LibcRuntime) -> Result<(), AnyError> {
-    stores(&rt, 2)?;
-    stores(&rt, 65)
+    office::show_refused_rows(&rt)?;
+    let scheme = match office::scheme() {
+        Ok(scheme) => scheme,
+        Err(refusal) => {
+            println!(rt, "the lattices: {refusal}")?;
+            return Ok(());
+        }
+    };
+    office::show_scheme(&rt, &scheme)?;
+    let mut policy = Policy::new();
+    office::read_policy(&rt, &mut policy, &scheme)?;
+    jobs::judge_week(&rt, &policy, &scheme)
 }
