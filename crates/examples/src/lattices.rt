@@ -99,7 +99,10 @@ fn rows_that_are_no_lattice_are_refused() -> Result<(), Fail> {
     check_eq(refused(&[0b11, 0b110]), at(Reason::StrayBit, 1))?;
     check_eq(refused(&[0b11, 0b00]), at(Reason::NotReflexive, 1))?;
     check_eq(refused(&[0b11, 0b11]), at(Reason::NotAntisymmetric, 0))?;
-    check_eq(refused(&[0b011, 0b110, 0b100]), at(Reason::NotTransitive, 0))?;
+    check_eq(
+        refused(&[0b011, 0b110, 0b100]),
+        at(Reason::NotTransitive, 0),
+    )?;
     check_eq(refused(&[0b101, 0b010, 0b100]), at(Reason::NotBounded, 1))?;
     // 1 and 2 are both below 3 and 4, neither of which is below the other
     check_eq(
@@ -132,7 +135,10 @@ fn pairs_have_both_parts() -> Result<(), Fail> {
 fn pairs_have_64_values_at_most() -> Result<(), Fail> {
     let ten = Ladder::new(10)?;
     check(lattice::fits(&ten, &Ladder::new(8)?).is_ok())?;
-    check_eq(lattice::fits(&ten, &Ladder::new(9)?).err(), at(Reason::PairSize, 0))?;
+    check_eq(
+        lattice::fits(&ten, &Ladder::new(9)?).err(),
+        at(Reason::PairSize, 0),
+    )?;
     let wide = Pair {
         first: ten,
         second: Ladder::new(9)?,

@@ -14,8 +14,11 @@ use policy::SchemeVocabulary;
 use std::test::*;
 
 const ALLOW: u32 = 0x1000_0000;
+
 const DENY: u32 = 0x2000_0000;
+
 const EXCEPT: u32 = 0x4000_0000;
+
 const END: u32 = 0x5000_0000;
 
 fn refused(words: &[u32]) -> Result<Option<Refusal>, Refusal> {
@@ -85,7 +88,10 @@ fn words_out_of_place_are_refused() -> Result<(), Fail> {
 
 #[test]
 fn exceptions_have_the_other_kind() -> Result<(), Fail> {
-    check_eq(refused(&[DENY, EXCEPT, DENY, END, END])?, at(Reason::SameKind, 2))
+    check_eq(
+        refused(&[DENY, EXCEPT, DENY, END, END])?,
+        at(Reason::SameKind, 2),
+    )
 }
 
 #[test]
@@ -98,8 +104,14 @@ fn values_are_those_of_the_lattices() -> Result<(), Fail> {
 
 #[test]
 fn values_rise() -> Result<(), Fail> {
-    check_eq(refused(&[DENY, 0x3300_0002, 0x3300_0002, END])?, at(Reason::NotRising, 2))?;
-    check_eq(refused(&[DENY, 0x3300_0002, 0x3100_0003, END])?, at(Reason::NotRising, 2))
+    check_eq(
+        refused(&[DENY, 0x3300_0002, 0x3300_0002, END])?,
+        at(Reason::NotRising, 2),
+    )?;
+    check_eq(
+        refused(&[DENY, 0x3300_0002, 0x3100_0003, END])?,
+        at(Reason::NotRising, 2),
+    )
 }
 
 #[test]

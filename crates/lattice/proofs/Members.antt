@@ -142,4 +142,3 @@ has-before-without s v w h =
       | inl same ↦ absurd (both-ways (has (without s v) w) (subst (λ (x : ℕ). has (without s v) x ≡ false) same (has-without-same s v)) h)
       | inr other ↦ sym (has-without-other s v w other) ∙ h
     ]
-

@@ -20,9 +20,5 @@ pub fn insert(set: u64, value: u8) -> u64
 pub fn remove(set: u64, value: u8) -> u64
     ensures { λ r. ⌜ r ≡ without set value ⌝ }
 {
-    if value < 64 {
-        set & !(1 << value)
-    } else {
-        set
-    }
+    if value < 64 { set & !(1 << value) } else { set }
 }

@@ -1,4 +1,4 @@
-// Finite lattices behind one trait: values are the numbers below a size of 2 to 64, 0 is the bottom and the last value the top.
+//! Finite lattices behind one trait: values are the numbers below a size of 2 to 64, 0 is the bottom and the last value the top.
 ghost use mathlib.Core.Path.{_≡_};
 ghost use Rattle.lattice.specs.Order.{Order, Lattice as Laws, meet, join};
 ghost use Rattle.lattice.specs.Algebra.{Algebra};

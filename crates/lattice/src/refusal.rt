@@ -99,16 +99,20 @@ impl Reason {
             Reason::StrayBit => "the row has a bit at or above the row count",
             Reason::NotReflexive => "the row lacks its own bit",
             Reason::NotAntisymmetric => "the value and another are each at or below the other",
-            Reason::NotTransitive => "the value is below a second and that below a third, yet not below the third",
-            Reason::NotBounded => "value 0 is not at or below the value, or the last value not at or above it",
+            Reason::NotTransitive =>
+                "the value is below a second and that below a third, yet not below the third",
+            Reason::NotBounded =>
+                "value 0 is not at or below the value, or the last value not at or above it",
             Reason::NoJoin => "the value and another have no least upper bound",
             Reason::LadderSize => "a ladder has from 2 to 64 levels",
             Reason::PairSize => "the pair would have more than 64 values",
             Reason::WordCount => "a policy has from 1 to 4,096 words",
             Reason::BadWord => "the word has none of the five kinds, or a bit that must be 0",
-            Reason::MisplacedWord => "a word of this kind cannot stand here, or the words end too early",
+            Reason::MisplacedWord =>
+                "a word of this kind cannot stand here, or the words end too early",
             Reason::SameKind => "an exception has the other kind than the clause around it",
-            Reason::BadValue => "there is no such attribute, or it has no such value past its bottom",
+            Reason::BadValue =>
+                "there is no such attribute, or it has no such value past its bottom",
             Reason::NotRising => "values rise by attribute, then code",
             Reason::TooNested => "a policy has at most 256 clauses, at most 16 deep",
         }
@@ -117,11 +121,13 @@ impl Reason {
 
 pub impl fmt::Display for Layer as LayerDisplay {
     fn fmt<W: fmt::Write>(&self, f: &mut fmt::Formatter<W>) -> fmt::Result {
-        f.write_str(match self {
-            Layer::Lattice => "lattice",
-            Layer::Words => "words",
-            Layer::Clauses => "clauses",
-        })
+        f.write_str(
+            match self {
+                Layer::Lattice => "lattice",
+                Layer::Words => "words",
+                Layer::Clauses => "clauses",
+            },
+        )
     }
 }
 
@@ -131,6 +137,9 @@ pub impl fmt::Display for Refusal as RefusalDisplay {
         let place = self.place;
         let layer = self.reason.layer();
         let words = self.reason.words();
-        write!(f, "refusal {number} at place {place}, layer {layer}: {words}")
+        write!(
+            f,
+            "refusal {number} at place {place}, layer {layer}: {words}"
+        )
     }
 }

@@ -1,4 +1,4 @@
-// Rows of bits, where row i has bit j if value i is at or below value j, and what may be at fault in them.
+//! Rows of bits, where row i has bit j if value i is at or below value j, and what may be at fault in them.
 ghost use mathlib.Core.Path.{_≡_};
 ghost use mathlib.Core.Bool.{false};
 ghost use Prim.Native.Nat.{_^_, _<_, _≤_};

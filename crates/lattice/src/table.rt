@@ -1,4 +1,4 @@
-// A lattice given by its rows: row i has bit j where value i is at or below value j.
+//! A lattice given by its rows: row i has bit j where value i is at or below value j.
 ghost use mathlib.Core.Path.{_≡_};
 ghost use Prim.Native.Nat.{ℕ, _^_, _<_, _≤_};
 ghost use lib.ListN.{length, getD, take};
@@ -79,10 +79,7 @@ pub impl Lattice for Table as TableLattice {
         for x in 0..self.size {
             let row = self.rows[x as usize];
             let above = self.rows[best as usize];
-            if contains(row, a)
-                & contains(row, b)
-                & contains(above, x)
-            {
+            if contains(row, a) & contains(row, b) & contains(above, x) {
                 best = x;
             }
         }

@@ -1,10 +1,10 @@
-// What a clause allows, which clause decides, and which data types a denial rests on.
+//! What a clause allows, which clause decides, and which data types a denial rests on.
 ghost use mathlib.Core.Path.{_≡_};
 ghost use Prim.Native.Nat.{_<_};
 ghost use lib.ListN.{length};
 ghost use Rattle.policy.specs.Clauses.{has-bottom, allows, decider, evidence};
 ghost use Rattle.policy.specs.Records.{tree, Nested, Opens};
-ghost use Rattle.policy.specs.Verdicts.{Just, left-after};
+ghost use Rattle.policy.specs.Verdicts.{left-after};
 use crate::clause::ClauseRecord;
 use crate::clause::Kind;
 use crate::label::Label;
@@ -18,8 +18,8 @@ enum Opening {
     Asks(Label),
 }
 
-// The answer of a clause, and the number of the clause that it rests on.
-#[derive(Clone, Copy)]
+/// The answer of a clause, and the number of the clause that it rests on.
+#[derive(Clone, Copy, PartialEq, Eq, Debug)]
 pub struct Decision {
     pub passed: bool,
     pub clause: usize,
@@ -71,7 +71,10 @@ pub(crate) fn decide<V: Vocabulary>(
 {
     let own = records[number];
     let asked = match open(scheme, own, label) {
-        Opening::Decides(passed) => return Decision { passed, clause: number },
+        Opening::Decides(passed) => return Decision {
+            passed,
+            clause: number,
+        },
         Opening::Asks(asked) => asked,
     };
     let usual = own.kind.is_allow();

@@ -27,7 +27,12 @@ pub trait Vocabulary {
         ensures { λ r. ⌜ r ≡ narrowed (orders (now (self .entry))) label list ⌝ };
 }
 
-pub impl<S: Lattice, P: Lattice, R: Lattice, T: Lattice> Vocabulary for Scheme<S, P, R, T> as SchemeVocabulary {
+pub impl<S: Lattice, P: Lattice, R: Lattice, T: Lattice> Vocabulary for Scheme<
+    S,
+    P,
+    R,
+    T,
+> as SchemeVocabulary {
     ghost orders = { λ s. scheme-of (S·Lattice .order (s .store)) (P·Lattice .order (s .purpose)) (R·Lattice .order (s .role)) (T·Lattice .order (s .types)) };
 
     fn sizes(&self) -> Sizes {

@@ -74,22 +74,25 @@ pub fn show_scheme(rt: &impl Print, scheme: &Office) -> Result<(), AnyError> {
     println!(rt, "  InStore: {} values", sizes.store)?;
     println!(rt, "  UseForPurpose: {} values", sizes.purpose)?;
     println!(rt, "  AccessByRole: {} values", sizes.role)?;
-    println!(rt, "  DataType: {} values, of 4 kinds in 3 states", sizes.types)?;
+    println!(
+        rt,
+        "  DataType: {} values, of 4 kinds in 3 states",
+        sizes.types
+    )?;
     Ok(())
 }
 
 /// Reads the policy's words, first without the last of them.
-pub fn read_policy(
-    rt: &impl Print,
-    policy: &mut Policy,
-    scheme: &Office,
-) -> Result<(), AnyError> {
+pub fn read_policy(rt: &impl Print, policy: &mut Policy, scheme: &Office) -> Result<(), AnyError> {
     println!(rt, "The policy")?;
     if let Err(refusal) = policy.read(&POLICY[0..7], scheme) {
         println!(rt, "  7 words: {refusal}")?;
     }
     match policy.read(&POLICY, scheme) {
-        Ok(()) => println!(rt, "  8 words: no full reader identity for adverts, coarse excepted")?,
+        Ok(()) => println!(
+            rt,
+            "  8 words: no full reader identity for adverts, coarse excepted"
+        )?,
         Err(refusal) => println!(rt, "  8 words: {refusal}")?,
     }
     Ok(())

@@ -21,7 +21,7 @@ loop-w-again g c =
     elim (c .if-contains .came) [
       | then-contains w ↦
           narrowed-taken o (c .args .label) (c .args .list) (c .loop-w .w) (c .loop-w .narrowed) (c .if-contains .narrowed) (w .common .result)
-          (sym (c .contains .ensures) ∙ w .if-contains .taken) (c .loop-w .inv) (w .common .ensures) 
+          (sym (c .contains .ensures) ∙ w .if-contains .taken) (c .loop-w .inv) (w .common .ensures)
           (w .narrowed-is ∙ w .insert-narrowed .ensures
           ∙ sym (cond-below (w .common .result) 64 _ (c .loop-w .narrowed) (omega (arith, w .common .ensures, overlap-inside o laws (c .args .label) (c .loop-w .w), laws .at-most-64))))
       | else-contains w ↦

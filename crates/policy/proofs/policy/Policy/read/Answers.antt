@@ -21,9 +21,10 @@ pub ghost-self : need.ghost-self
 ghost-self g c =
     let d = c .in-Continue-draft .draft in
     let s = c .in-Continue-draft .ensures tt .0 in
-    let room : length (d .clauses) ≡ 256 = search needs in
-    ((stands-some (c .sizes .result) (c .args .words .now) (d .clauses) (d .count) s room, stands-few (c .sizes .result) (c .args .words .now) (d .clauses) (d .count) s),
-    (∣ stands-nested (c .sizes .result) (c .args .words .now) (d .clauses) (d .count) s room ∣₁, tt))
+    let room : length (d .clauses) ≡ 256 = search needs in (
+      (stands-some (c .sizes .result) (c .args .words .now) (d .clauses) (d .count) s room, stands-few (c .sizes .result) (c .args .words .now) (d .clauses) (d .count) s),
+      (∣ stands-nested (c .sizes .result) (c .args .words .now) (d .clauses) (d .count) s room ∣₁, tt),
+    )
 
 pub returns-in-Break-draft : need.returns-in-Break-draft
 returns-in-Break-draft g c =
