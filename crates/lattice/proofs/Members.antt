@@ -42,7 +42,7 @@ bit-kept (suc v) (suc w) s h other =
     bit-suc (s + 2 ^ suc v) w ∙ ap (λ (x : ℕ). (x / 2 ^ w) % 2) half ∙ bit-kept v w (s / 2) (sym (bit-suc s v) ∙ h) (λ e. other (ap suc e)) ∙ sym (bit-suc s w)
 
 -- a number with bit v set is at least 2 ^ v
-bit-le : (v s : ℕ) → (s / 2 ^ v) % 2 ≡ 1 → 2 ^ v ≤ s
+pub bit-le : (v s : ℕ) → (s / 2 ^ v) % 2 ≡ 1 → 2 ^ v ≤ s
 bit-le zero s h = omega arith
 bit-le (suc v) s h = let below : 2 ^ v ≤ s / 2 = bit-le v (s / 2) (sym (bit-suc s v) ∙ h) in omega (arith, two-pow v)
 

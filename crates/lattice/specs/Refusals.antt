@@ -3,9 +3,9 @@ use Prim.Native.Nat.{ℕ}
 use mathlib.Core.Bool.{cond}
 use lib.Dec.{leb}
 use Rattle.lattice.specs.declared.refusal.Reason.{Reason}
-use Rattle.lattice.specs.declared.refusal.Reason.the-variants.{RowCount, StrayBit, NotReflexive, NotAntisymmetric, NotTransitive, NotBounded, NoJoin, LadderSize, PairSize, WordCount, BadWord, MisplacedWord, SameKind, BadValue, NotRising, TooNested}
+use Rattle.lattice.specs.declared.refusal.Reason.the-variants.{RowCount, StrayBit, NotReflexive, NotAntisymmetric, NotTransitive, NotBounded, NoJoin, LadderSize, PairSize, WordCount, BadWord, MisplacedWord, SameKind, BadValue, NotRising, TooNested, NoNode, NoStep, BadArgument, FlowStands, NoFlow, NoRoom, Unsettled, SizesDiffer, NotInLabel, ShortPiece}
 use Rattle.lattice.specs.declared.refusal.Layer as layers
-use Rattle.lattice.specs.declared.refusal.Layer.the-variants.{Lattice, Words, Clauses}
+use Rattle.lattice.specs.declared.refusal.Layer.the-variants.{Lattice, Words, Clauses, Inventory}
 
 abbrev pub number-of : Reason → ℕ
 number-of RowCount = 1
@@ -24,7 +24,17 @@ number-of SameKind = 13
 number-of BadValue = 14
 number-of NotRising = 15
 number-of TooNested = 16
+number-of NoNode = 17
+number-of NoStep = 18
+number-of BadArgument = 19
+number-of FlowStands = 20
+number-of NoFlow = 21
+number-of NoRoom = 22
+number-of Unsettled = 23
+number-of SizesDiffer = 24
+number-of NotInLabel = 25
+number-of ShortPiece = 26
 
--- the reasons are numbered by layer: 1 to 9, 10 to 12, and those that follow
+-- the reasons are numbered by layer: 1 to 9, 10 to 12, 13 to 16, and those that follow
 abbrev pub layer-of : Reason → layers.Layer
-layer-of r = cond (leb (number-of r) 9) Lattice (cond (leb (number-of r) 12) Words Clauses)
+layer-of r = cond (leb (number-of r) 9) Lattice (cond (leb (number-of r) 12) Words (cond (leb (number-of r) 16) Clauses Inventory))

@@ -38,6 +38,26 @@ pub enum Reason {
     NotRising,
     /// The clause is deeper than 16, or one more than 256.
     TooNested,
+    /// There is no such node.
+    NoNode,
+    /// There is no such step.
+    NoStep,
+    /// A value, a declared set or a row that the sizes do not have.
+    BadArgument,
+    /// This flow stands already.
+    FlowStands,
+    /// No such flow stands.
+    NoFlow,
+    /// All node room, flow room or the 32 steps are in use.
+    NoRoom,
+    /// The inventory was changed since it was settled.
+    Unsettled,
+    /// The scheme, the policy and the inventory differ in a size.
+    SizesDiffer,
+    /// The value is not in the node's label.
+    NotInLabel,
+    /// The piece has fewer entries than the path has flows.
+    ShortPiece,
 }
 
 /// The part of the library that refused.
@@ -46,13 +66,14 @@ pub enum Layer {
     Lattice,
     Words,
     Clauses,
+    Inventory,
 }
 
 /// A refusal: nothing was written.
 #[derive(Clone, Copy, PartialEq, Eq, Debug)]
 pub struct Refusal {
     pub reason: Reason,
-    /// Where the fault is: a row, a value or a word by its number, and 0 where nothing is numbered.
+    /// Where the fault is: a row, a value, a word, a node or a step by its number, and 0 where nothing is numbered.
     pub place: usize,
 }
 
@@ -78,6 +99,16 @@ impl Reason {
             Reason::BadValue => 14,
             Reason::NotRising => 15,
             Reason::TooNested => 16,
+            Reason::NoNode => 17,
+            Reason::NoStep => 18,
+            Reason::BadArgument => 19,
+            Reason::FlowStands => 20,
+            Reason::NoFlow => 21,
+            Reason::NoRoom => 22,
+            Reason::Unsettled => 23,
+            Reason::SizesDiffer => 24,
+            Reason::NotInLabel => 25,
+            Reason::ShortPiece => 26,
         }
     }
 
@@ -88,7 +119,8 @@ impl Reason {
         match self.number() {
             0..=9 => Layer::Lattice,
             10..=12 => Layer::Words,
-            _ => Layer::Clauses,
+            13..=16 => Layer::Clauses,
+            _ => Layer::Inventory,
         }
     }
 
@@ -115,6 +147,16 @@ impl Reason {
                 "there is no such attribute, or it has no such value past its bottom",
             Reason::NotRising => "values rise by attribute, then code",
             Reason::TooNested => "a policy has at most 256 clauses, at most 16 deep",
+            Reason::NoNode => "there is no such node",
+            Reason::NoStep => "there is no such step",
+            Reason::BadArgument => "a value, a declared set or a row that the sizes do not have",
+            Reason::FlowStands => "this flow stands already",
+            Reason::NoFlow => "no such flow stands",
+            Reason::NoRoom => "all node room, flow room or the 32 steps are in use",
+            Reason::Unsettled => "the inventory was changed since it was settled",
+            Reason::SizesDiffer => "the scheme, the policy and the inventory differ in a size",
+            Reason::NotInLabel => "the value is not in the node's label",
+            Reason::ShortPiece => "the piece has fewer entries than the path has flows",
         }
     }
 }
@@ -126,6 +168,7 @@ pub impl fmt::Display for Layer as LayerDisplay {
                 Layer::Lattice => "lattice",
                 Layer::Words => "words",
                 Layer::Clauses => "clauses",
+            Layer::Inventory => "inventory",
             },
         )
     }

@@ -1,0 +1,10 @@
+pub mod Lists
+pub mod Bits
+pub mod RowLaws
+pub mod Declines
+pub mod Found
+pub mod Keeps
+pub mod Ledgers
+pub mod Outcomes
+pub mod Edits
+pub mod Fresh

@@ -1,0 +1,6 @@
+pub mod View
+pub mod Sound
+pub mod Answers
+pub mod Inventories
+pub mod Checks
+pub mod Resettled

@@ -1,0 +1,9 @@
+//! A data-flow inventory: nodes, steps and the flows between nodes, in memory that the caller lends.
+mod finding;
+pub mod inventory;
+mod nodes;
+mod rows;
+mod sets;
+mod sizes;
+
+pub use inventory::Inventory;
