@@ -8,3 +8,5 @@ pub mod Ledgers
 pub mod Outcomes
 pub mod Edits
 pub mod Fresh
+pub mod Bridge
+pub mod Resettles

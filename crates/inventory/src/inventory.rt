@@ -7,6 +7,7 @@ use lattice::Sizes;
 mod checks;
 mod edits;
 mod making;
+mod settling;
 
 /// An inventory over three pieces of memory that the caller lends.
 #[derive(Drop)]
