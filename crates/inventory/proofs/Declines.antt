@@ -107,11 +107,14 @@ module _ (v : View) where
       let q = passed (good-value (v .sizes .types) x) BadArgument 0 last (p .1) in
       (ltb-true n (v .node-count) (p .0), q .0, passed-last (v .settled) Unsettled 0 (q .1))
 
-  pub judge-passed : (n : ℕ) (z : Scheme) (p : Policy) → refusal-of v (judge n z p) ≡ None → (n < v .node-count) × (v .settled ≡ true)
+  pub judge-passed : (n : ℕ) (z : Scheme) (p : Policy) → refusal-of v (judge n z p) ≡ None
+      → (n < v .node-count) × (v .settled ≡ true) × (same-sizes (scheme-sizes z) (v .sizes) ≡ true)
   judge-passed n z p h =
-      let last = unless (same-sizes (scheme-sizes z) (v .sizes) && same-sizes (p .sizes) (v .sizes)) SizesDiffer 0 in
+      let both = same-sizes (scheme-sizes z) (v .sizes) && same-sizes (p .sizes) (v .sizes) in
+      let last = unless both SizesDiffer 0 in
       let q = passed (ltb n (v .node-count)) NoNode n (or-else (unless (v .settled) Unsettled 0) last) h in
-      (ltb-true n (v .node-count) (q .0), passed (v .settled) Unsettled 0 last (q .1) .0)
+      let r = passed (v .settled) Unsettled 0 last (q .1) in
+      (ltb-true n (v .node-count) (q .0), r .0, and-parts (same-sizes (scheme-sizes z) (v .sizes)) (same-sizes (p .sizes) (v .sizes)) (passed-last both SizesDiffer 0 (r .1)) .0)
 
   ends-passed : (a b t : ℕ) (rest : Option Refusal) → ends-there v a b t rest ≡ None
       → (a < v .node-count) × (b < v .node-count) × (t < v .step-count) × (rest ≡ None)

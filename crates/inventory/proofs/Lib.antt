@@ -10,3 +10,5 @@ pub mod Edits
 pub mod Fresh
 pub mod Bridge
 pub mod Resettles
+pub mod Asks
+pub mod Judges

@@ -4,3 +4,5 @@ pub mod Answers
 pub mod Inventories
 pub mod Checks
 pub mod Resettled
+pub mod Paths
+pub mod Promised

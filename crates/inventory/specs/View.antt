@@ -16,6 +16,7 @@ use Rattle.lattice.specs.declared.sizes.Sizes.{Sizes}
 use Rattle.lattice.specs.Sets.{with, without}
 use Rattle.ledger.specs.Ledger.{Ledger, Node, Flow, Call, enter, step, mark, unmark, verify, draw, strike, settle, judge, path, declined, after, flow-number, counting, nearest-size}
 use Rattle.ledger.specs.Run.{Answer, Answered}
+use Rattle.policy.specs.declared.label.Label.{Label}
 
 pub record View : Type 0 where
   pub nodes : List NodeRecord
@@ -118,6 +119,10 @@ reverified r b = record { store = r .store; purpose = r .purpose; role = r .role
 
 abbrev pub record-at : View → ℕ → NodeRecord
 record-at v n = getD (v .nodes) n no-node
+
+-- what is declared of a node, with the data types of its label
+abbrev pub held-at : View → ℕ → Label
+held-at v n = record { store = record-at v n .store; purpose = record-at v n .purpose; role = record-at v n .role; types = record-at v n .label }
 
 -- the last flow's record is copied into the struck place, and the last record stays as it was
 abbrev pub without-flow : View → Option ℕ → View

@@ -6,7 +6,9 @@ use lattice::Sizes;
 
 mod checks;
 mod edits;
+mod judging;
 mod making;
+mod paths;
 mod settling;
 
 /// An inventory over three pieces of memory that the caller lends.

@@ -53,7 +53,7 @@ by-declined L c answer o e answered = subst (Answered-by L c answer) e (go (decl
     go (Some r) h = h
     go None h = h
 
-path-shown : (L : Ledger) → Sound L → L .settled ≡ true → (n v room : ℕ) (answer : Answer) → n < length (L .nodes) →
+pub path-shown : (L : Ledger) → Sound L → L .settled ≡ true → (n v room : ℕ) (answer : Answer) → n < length (L .nodes) →
     Answered L (path n v room) answer → Path-shown L n v room answer
 path-shown L sound settled n v room answer there answered gs way fits =
     given-shown L n v room answer
