@@ -12,3 +12,4 @@ pub mod Bridge
 pub mod Resettles
 pub mod Asks
 pub mod Judges
+pub mod Sequences

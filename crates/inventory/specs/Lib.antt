@@ -6,3 +6,4 @@ pub mod Checks
 pub mod Resettled
 pub mod Paths
 pub mod Promised
+pub mod Calls

@@ -1,0 +1,10 @@
+use lib.ListN.{take}
+use Rattle.std.specs.Of.Vec.{vec-items}
+use Rattle.inventory.specs.Calls.{Done-by}
+use Rattle.inventory.specs.Inventories.{view}
+use Rattle.inventory.proofs.runs.run.Given as given
+
+-- the calls so far were made one after another
+abbrev pub Inv-loop-call : given.InvT-loop-call
+Inv-loop-call g l =
+    Done-by (g .V·Vocabulary .orders) (l .schemes) (l .policies) (view (l .entry .inventory)) (take (l .call-index) (l .calls)) (vec-items (l .answers)) (view (l .inventory))
