@@ -7,8 +7,9 @@ ghost use Rattle.std.specs.Of.Vec.{vec-items};
 ghost use Rattle.ledger.specs.Ledger.{fresh, path as asking};
 ghost use Rattle.ledger.specs.Run.{Every-call-answered, Every-judgement-right};
 ghost use Rattle.inventory.specs.Answers.{plain-answer, number-answer, judged-answer};
-ghost use Rattle.inventory.specs.Calls.{Made, Matched, One, answer-of, events, judged-by, named};
+ghost use Rattle.inventory.specs.Calls.{Done-by, Made, Matched, One, answer-of, events, judged-by, named};
 ghost use Rattle.inventory.specs.Inventories.{view};
+ghost use Rattle.inventory.specs.View.{View, made-new};
 use crate::calls::Answer;
 use crate::calls::Call;
 use crate::inventory::Inventory;
@@ -150,6 +151,7 @@ pub fn run<V: Vocabulary>(
     calls: &[Call],
 ) -> Result<Vec<Option<Answer>>, AllocError>
     ensures matched { λ r. ⌜ made r (λ v. Matched (V·Vocabulary .orders) (now (schemes .entry)) (now (policies .entry)) (now (calls .entry)) (vec-items v)) ⌝ }
+    ensures memory { λ r. ⌜ made r (λ v. (w : View) × Done-by (V·Vocabulary .orders) (now (schemes .entry)) (now (policies .entry)) (made-new sizes (now (nodes .entry)) (now (flows .entry)) (now (workspace .entry))) (now (calls .entry)) (vec-items v) w × (now (nodes .exit) ≡ w .nodes) × (now (flows .exit) ≡ w .flows) × (now (workspace .exit) ≡ w .workspace)) ⌝ }
     ensures answered { λ r. ⌜ made r (λ v. Every-call-answered (fresh sizes (length (now (nodes .entry))) (length (now (flows .entry))) (length (now (workspace .entry)))) (events (V·Vocabulary .orders) (now (schemes .entry)) (now (policies .entry)) (now (calls .entry)) (vec-items v))) ⌝ }
     ensures right { λ r. ⌜ made r (λ v. Every-judgement-right (fresh sizes (length (now (nodes .entry))) (length (now (flows .entry))) (length (now (workspace .entry)))) (events (V·Vocabulary .orders) (now (schemes .entry)) (now (policies .entry)) (now (calls .entry)) (vec-items v))) ⌝ }
 {
