@@ -7,7 +7,7 @@ use lattice::Sizes;
 mod checks;
 mod edits;
 mod judging;
-mod making;
+pub mod making;
 mod paths;
 mod settling;
 

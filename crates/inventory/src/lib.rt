@@ -10,5 +10,8 @@ mod sizes;
 
 pub use calls::Answer;
 pub use calls::Call;
+pub use flows::FlowRecord;
+pub use flows::NodeRecord;
 pub use inventory::Inventory;
+pub use inventory::making::Lent;
 pub use runs::run;

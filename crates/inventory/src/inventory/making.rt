@@ -1,4 +1,4 @@
-// A new inventory.
+//! An inventory is made over lent memory, and gives it back.
 ghost use mathlib.Core.Path.{_≡_};
 ghost use lib.ListN.{length};
 ghost use denote.Ref.{name};
@@ -11,6 +11,14 @@ use flows::NodeRecord;
 use crate::rows;
 use crate::sizes;
 use lattice::Sizes;
+
+/// The three pieces of memory of an inventory.
+#[derive(Drop)]
+pub struct Lent<'a> {
+    pub nodes: &'a mut [NodeRecord],
+    pub flows: &'a mut [FlowRecord],
+    pub workspace: &'a mut [u32],
+}
 
 impl<'a> Inventory<'a> {
     /// An inventory with no nodes and no flows, over the memory lent. Its one step leaves every value as it is.
@@ -43,6 +51,35 @@ impl<'a> Inventory<'a> {
             flow_room,
             sizes,
             settled: true,
+        }
+    }
+
+    /// Gives the memory back, with all that the inventory wrote there.
+    pub fn release(self) -> Lent<'a>
+        ensures nodes { λ r. ⌜ now (r .nodes) ≡ view (self .entry) .nodes ⌝ }
+        ensures flows { λ r. ⌜ now (r .flows) ≡ view (self .entry) .flows ⌝ }
+        ensures workspace { λ r. ⌜ now (r .workspace) ≡ view (self .entry) .workspace ⌝ }
+        ensures nodes_lent { λ r. ⌜ name (r .nodes) ≡ name (self .entry .nodes) ⌝ }
+        ensures flows_lent { λ r. ⌜ name (r .flows) ≡ name (self .entry .flows) ⌝ }
+        ensures workspace_lent { λ r. ⌜ name (r .workspace) ≡ name (self .entry .workspace) ⌝ }
+    {
+        let Inventory {
+            nodes,
+            flows,
+            workspace,
+            steps: _,
+            step_count: _,
+            node_count: _,
+            flow_count: _,
+            node_room: _,
+            flow_room: _,
+            sizes: _,
+            settled: _,
+        } = self;
+        Lent {
+            nodes,
+            flows,
+            workspace,
         }
     }
 }
