@@ -106,7 +106,7 @@ module _ (v : View) (s : Sound v) where
         subst (λ (k : ℕ). 0 < k) (sym (through-same f x l)) (some-positive (through (graph-of v) f x) (trail .2)),
         open-same f l ∙ trail .3,
         subst (λ (k : ℕ). Law-trail (ledger-of v) k (law-carried (ledger-of v) (law-flow-at (ledger-of v) f .step) x) fs b y) (sym (end-same f l))
-        (subst (λ (u : ℕ). Law-trail (ledger-of v) (flow-at (graph-of v) f .to) u fs b y) (sym (through-same f x l)) rest),
+            (subst (λ (u : ℕ). Law-trail (ledger-of v) (flow-at (graph-of v) f .to) u fs b y) (sym (through-same f x l)) rest),
       )
 
   pub trail-from : (fs : List ℕ) (a x b y : ℕ) → Law-trail (ledger-of v) a x fs b y → Trail (graph-of v) a x fs b y
@@ -153,11 +153,13 @@ module _ (v : View) (s : Sound v) where
 
     pub label-right : (n : ℕ) → n < v .node-count → node-at (graph-of v) n .label < 2 ^ 64 → Label-of (ledger-of v) n (node-at (graph-of v) n .label)
     label-right n l small =
-        let d = node-at (graph-of v) n .label in
-        (small, λ x. (
-          (λ h. ∣ (_, path-to _ n x (reached (graph-of v) (v .workspace) joined (all .0) (all .1) n x l (has-below d 64 x small h) (has-holds d x h) .0)) ∣₁),
-          (λ comes. ∥∥₁-elim comes (T-prop (has d x)) (λ found. holds-has d x (brought-near (found .0) n x (found .1) .0))),
-        ))
+        let d = node-at (graph-of v) n .label in (
+          small,
+          λ x. (
+            (λ h. ∣ (_, path-to _ n x (reached (graph-of v) (v .workspace) joined (all .0) (all .1) n x l (has-below d 64 x small h) (has-holds d x h) .0)) ∣₁),
+            (λ comes. ∥∥₁-elim comes (T-prop (has d x)) (λ found. holds-has d x (brought-near (found .0) n x (found .1) .0))),
+          ),
+        )
 
   -- the certificate of a settled view
   pub certified : v .settled ≡ true → Certified (graph-of v) (v .workspace)

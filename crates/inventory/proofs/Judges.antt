@@ -108,8 +108,8 @@ module _ (v : View) (s : Sound v) where
         d,
         label-right v s (certified v s (ok .1)) n (ok .0) small,
         ap (λ b. judged b by left) (e₁ ∙ ap (allows z (p .clause)) is)
-        ∙ ap (λ k. judged (allows z (p .clause) (label-at (ledger-of v) n d)) k left) (e₂ ∙ ap (decider z 0 (p .clause)) is)
-        ∙ ap (λ k. judged (allows z (p .clause) (label-at (ledger-of v) n d)) (decider z 0 (p .clause) (label-at (ledger-of v) n d)) k) (e₃ ∙ ap (evidence z (p .clause)) is),
+            ∙ ap (λ k. judged (allows z (p .clause) (label-at (ledger-of v) n d)) k left) (e₂ ∙ ap (decider z 0 (p .clause)) is)
+            ∙ ap (λ k. judged (allows z (p .clause) (label-at (ledger-of v) n d)) (decider z 0 (p .clause) (label-at (ledger-of v) n d)) k) (e₃ ∙ ap (evidence z (p .clause)) is),
       )
 
   pub judge-promised : (n : ℕ) (z : Scheme) (p : Policy) → Lattices z → (r : Result Verdict Refusal) → Answered (ledger-of v) (judge n z p) (judged-answer r)

@@ -49,9 +49,31 @@ pub parts : (v : View) → Sound v
     × (Silent-rows (v .sizes .types) (v .steps)
     × (Settled-labels (v .nodes) (v .flows) (v .steps) (v .workspace) (v .node-count) (v .flow-count) (v .settled)
     × Unit {0}))))))))))
-parts v s =
-    (s .sized, (s .node-fits, (s .flow-fits, (s .step-fits, (s .nodes-good, (s .flows-good, (s .flows-apart, (s .rows-good,
-    (s .rows-bounded, (s .rows-silent, (s .labels-settled, tt)))))))))))
+parts v s = (
+  s .sized,
+  (
+    s .node-fits,
+    (
+      s .flow-fits,
+      (
+        s .step-fits,
+        (
+          s .nodes-good,
+          (
+            s .flows-good,
+            (
+              s .flows-apart,
+              (
+                s .rows-good,
+                (s .rows-bounded, (s .rows-silent, (s .labels-settled, tt))),
+              ),
+            ),
+          ),
+        ),
+      ),
+    ),
+  ),
+)
 
 -- what the law asks of an answer, by why the call is declined
 abbrev Answered-by : Ledger → Call → Answer → Option Refusal → Type 0

@@ -168,7 +168,7 @@ pub impl fmt::Display for Layer as LayerDisplay {
                 Layer::Lattice => "lattice",
                 Layer::Words => "words",
                 Layer::Clauses => "clauses",
-            Layer::Inventory => "inventory",
+                Layer::Inventory => "inventory",
             },
         )
     }

@@ -84,7 +84,7 @@ pub fn show_scheme(rt: &impl Print, scheme: &Office) -> Result<(), AnyError> {
 
 /// Reads the policy's words, first without the last of them.
 pub fn read_policy(rt: &impl Print, policy: &mut Policy, scheme: &Office) -> Result<(), AnyError> {
-    println!(rt, "The policy")?;
+    println!(rt, "Wednesday, the policy goes in as words")?;
     if let Err(refusal) = policy.read(&POLICY[0..7], scheme) {
         println!(rt, "  7 words: {refusal}")?;
     }

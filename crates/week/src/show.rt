@@ -34,3 +34,21 @@ pub impl fmt::Display for DataTypes as DataTypesDisplay {
         f.write_str("}")
     }
 }
+
+/// The numbers of the flows of a path.
+#[derive(Clone, Copy)]
+pub struct Flows<'a>(pub &'a [u32]);
+
+pub impl fmt::Display for Flows<'_> as FlowsDisplay {
+    fn fmt<W: fmt::Write>(&self, f: &mut fmt::Formatter<W>) -> fmt::Result {
+        let mut later = false;
+        for flow in self.0 {
+            if later {
+                f.write_str(", ")?;
+            }
+            write!(f, "{flow}")?;
+            later = true;
+        }
+        Ok(())
+    }
+}

@@ -11,11 +11,11 @@ ghost use Rattle.ledger.specs.Ledger.{flow-number, enter as entering, step as s
 ghost use mathlib.Core.Bool.{true};
 use super::Inventory;
 use crate::finding;
-use lattice::Reason;
-use lattice::Refusal;
 use crate::rows;
 use crate::sets;
 use crate::sizes;
+use lattice::Reason;
+use lattice::Refusal;
 use lattice::Sizes;
 
 impl Inventory<'_> {
@@ -113,7 +113,12 @@ impl Inventory<'_> {
         Ok(())
     }
 
-    pub(super) fn check_judge(&self, node: usize, scheme: Sizes, policy: Sizes) -> Result<(), Refusal>
+    pub(super) fn check_judge(
+        &self,
+        node: usize,
+        scheme: Sizes,
+        policy: Sizes,
+    ) -> Result<(), Refusal>
         ensures { λ r. ⌜ declined-by r ≡ judge-refusal (view (now (self .entry))) node scheme policy ⌝ }
     {
         if node >= self.node_count {

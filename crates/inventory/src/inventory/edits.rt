@@ -7,10 +7,10 @@ ghost use Rattle.inventory.specs.Answers.{plain-answer, number-answer};
 ghost use Rattle.ledger.specs.Ledger.{enter as entering, step as stepping, mark as marking, unmark as unmarking, verify as verifying, draw as drawing, strike as striking};
 use super::Inventory;
 use crate::nodes;
+use crate::rows;
 use flows::FlowRecord;
 use flows::NodeRecord;
 use lattice::Refusal;
-use crate::rows;
 
 impl Inventory<'_> {
     /// Enters a node with the values declared for it, and gives its number.

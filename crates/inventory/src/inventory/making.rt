@@ -6,10 +6,10 @@ ghost use Rattle.ledger.specs.Ledger.{fresh};
 ghost use Rattle.inventory.specs.Inventories.{view, ledger};
 ghost use Rattle.inventory.specs.View.{made-new};
 use super::Inventory;
-use flows::FlowRecord;
-use flows::NodeRecord;
 use crate::rows;
 use crate::sizes;
+use flows::FlowRecord;
+use flows::NodeRecord;
 use lattice::Sizes;
 
 /// The three pieces of memory of an inventory.

@@ -20,16 +20,22 @@ use Rattle.inventory.proofs.runs.run.Needs as need
 
 pub loop-call-holds : need.loop-call-holds
 loop-call-holds g c =
-    let v = view (c .new-inventory .result) in
-    (subst (λ (l : List (Option Answer)). Done-by (g .V·Vocabulary .orders) (c .args .schemes .now) (c .args .policies .now) v [] l v) (sym (c .new-answers .ensures .items)) refl,
-    refl, refl, refl)
+    let v = view (c .new-inventory .result) in (
+      subst (λ (l : List (Option Answer)). Done-by (g .V·Vocabulary .orders) (c .args .schemes .now) (c .args .policies .now) v [] l v) (sym (c .new-answers .ensures .items)) refl,
+      refl,
+      refl,
+      refl,
+    )
 
 pub loop-call-again : need.loop-call-again
 loop-call-again g c =
-    let one = c .in-Continue-answer .ensures tt in
-    (done-next (g .V·Vocabulary .orders) (c .args .schemes .now) (c .args .policies .now) _ _ _ (c .args .calls .now) (c .loop-call .call-index) _ (Enter 0 0 0) _ _ _
-    (c .loop-call-test .taken) refl (c .in-Continue-push .ensures tt .items) (c .loop-call .inv .0) (one .one),
-    one .nodes-lent ∙ c .loop-call .inv .1, one .flows-lent ∙ c .loop-call .inv .2, one .workspace-lent ∙ c .loop-call .inv .3)
+    let one = c .in-Continue-answer .ensures tt in (
+      done-next (g .V·Vocabulary .orders) (c .args .schemes .now) (c .args .policies .now) _ _ _ (c .args .calls .now) (c .loop-call .call-index) _ (Enter 0 0 0) _ _ _
+          (c .loop-call-test .taken) refl (c .in-Continue-push .ensures tt .items) (c .loop-call .inv .0) (one .one),
+      one .nodes-lent ∙ c .loop-call .inv .1,
+      one .flows-lent ∙ c .loop-call .inv .2,
+      one .workspace-lent ∙ c .loop-call .inv .3,
+    )
 
 pub returns : need.returns
 returns g c =
@@ -46,8 +52,13 @@ returns g c =
     (done-answered orders schemes policies v w calls answers done) in
     record {
       matched = done-matched orders schemes policies v w calls answers done;
-      memory = (w, subst (λ (u : View). Done-by orders schemes policies u calls answers w) (c .new-inventory .ensures .memory) done,
-          (let lent = c .loop-call .inv .1 in search needs), (let lent = c .loop-call .inv .2 in search needs), (let lent = c .loop-call .inv .3 in search needs));
+      memory = (
+        w,
+        subst (λ (u : View). Done-by orders schemes policies u calls answers w) (c .new-inventory .ensures .memory) done,
+        (let lent = c .loop-call .inv .1 in search needs),
+        (let lent = c .loop-call .inv .2 in search needs),
+        (let lent = c .loop-call .inv .3 in search needs),
+      );
       answered = answered;
       right = fresh-runs-keep-the-promise (c .args .sizes) (length (c .args .nodes .now)) (length (c .args .flows .now)) (length (c .args .workspace .now)) _
           (all-bring orders schemes policies (g .V·Vocabulary·met .lawful) calls answers) answered;
