@@ -7,7 +7,8 @@ ghost use Rattle.inventory.specs.Inventories.{view};
 ghost use Rattle.inventory.specs.View.{flows-of};
 ghost use Rattle.inventory.specs.Answers.{declined-by};
 ghost use Rattle.inventory.specs.Checks.{refusal-of, judge-refusal, ends-there};
-ghost use Rattle.ledger.specs.Ledger.{flow-number, enter as entering, step as stepping, mark as marking, verify as verifying, path as asking, draw as drawing, strike as striking};
+ghost use Rattle.lattice.specs.declared.refusal.Reason.the-variants.{Unsettled};
+ghost use Rattle.ledger.specs.Ledger.{unless, flow-number, enter as entering, step as stepping, mark as marking, verify as verifying, path as asking, draw as drawing, strike as striking};
 ghost use mathlib.Core.Bool.{true};
 use super::Inventory;
 use crate::finding;
@@ -89,6 +90,18 @@ impl Inventory<'_> {
         Ok(())
     }
 
+    fn check_settled(&self) -> Result<(), Refusal>
+        ensures { λ r. ⌜ declined-by r ≡ unless (view (now (self .entry)) .settled) Unsettled 0 ⌝ }
+    {
+        if !self.settled {
+            return Err(Refusal {
+                reason: Reason::Unsettled,
+                place: 0,
+            });
+        }
+        Ok(())
+    }
+
     pub(super) fn check_path(&self, node: usize, value: u8) -> Result<(), Refusal>
         ensures { λ r. ⌜ declined-by r ≡ refusal-of (view (now (self .entry))) (asking node value 0) ⌝ }
     {
@@ -104,13 +117,7 @@ impl Inventory<'_> {
                 place: 0,
             });
         }
-        if !self.settled {
-            return Err(Refusal {
-                reason: Reason::Unsettled,
-                place: 0,
-            });
-        }
-        Ok(())
+        self.check_settled()
     }
 
     pub(super) fn check_judge(
@@ -127,12 +134,7 @@ impl Inventory<'_> {
                 place: node,
             });
         }
-        if !self.settled {
-            return Err(Refusal {
-                reason: Reason::Unsettled,
-                place: 0,
-            });
-        }
+        self.check_settled()?;
         if !sizes::same(scheme, self.sizes) || !sizes::same(policy, self.sizes) {
             return Err(Refusal {
                 reason: Reason::SizesDiffer,
