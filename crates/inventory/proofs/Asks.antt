@@ -1,4 +1,4 @@
--- What path answers is what the law asks.
+-- What path answers is what the ledger asks.
 use mathlib.Core.Path.{_≡_, refl, sym, ap, subst, _∙_}
 use mathlib.Core.Logic.{inl, inr, _≢_}
 use mathlib.Core.Bool.{Bool, true, false, cond, _&&_}

@@ -12,7 +12,7 @@ use Rattle.std.proofs.shelf.Lists.{getD-take}
 use Rattle.std.proofs.shelf.Tests.{cases-lt, eq-eqb, and-parts, ltb-true, eqb-true}
 use Rattle.lattice.specs.Sets.{has}
 use Rattle.policy.specs.Words.{in-range}
-use Rattle.ledger.specs.Ledger.{Ledger, node-at as law-node-at, flow-at as law-flow-at, carried as law-carried, Trail as Law-trail, Flow-path, Brought, Shortest}
+use Rattle.ledger.specs.Ledger.{Ledger, node-at as ledger-node-at, flow-at as ledger-flow-at, carried as ledger-carried, Trail as Ledger-trail, Flow-path, Brought, Shortest}
 use Rattle.ledger.specs.Run.{Label-of}
 use Rattle.lattice.proofs.Members.{bit-of}
 use Rattle.lattice.proofs.Tests.{is-true, from-true}
@@ -58,15 +58,15 @@ module _ (v : View) (s : Sound v) where
   pub bounded : Bounded (graph-of v) 64
   bounded t x = omega (arith, s .rows-bounded t x, s .sized .3)
 
-  pub node-same : (n : ℕ) → n < v .node-count → law-node-at (ledger-of v) n ≡ node-of (node-at (graph-of v) n)
+  pub node-same : (n : ℕ) → n < v .node-count → ledger-node-at (ledger-of v) n ≡ node-of (node-at (graph-of v) n)
   unfolding ledger-of
   node-same n l = read-at node-of (v .nodes) (v .node-count) n no-node l
 
-  pub flow-same : (f : ℕ) → f < v .flow-count → law-flow-at (ledger-of v) f ≡ flow-of (flow-at (graph-of v) f)
+  pub flow-same : (f : ℕ) → f < v .flow-count → ledger-flow-at (ledger-of v) f ≡ flow-of (flow-at (graph-of v) f)
   unfolding ledger-of
   flow-same f l = read-at flow-of (v .flows) (v .flow-count) f no-flow l
 
-  pub carried-same : (t x : ℕ) → t < v .step-count → law-carried (ledger-of v) t x ≡ carried (graph-of v) t x
+  pub carried-same : (t x : ℕ) → t < v .step-count → ledger-carried (ledger-of v) t x ≡ carried (graph-of v) t x
   unfolding ledger-of
   carried-same t x l =
       let row = getD (v .steps) t [] in
@@ -85,18 +85,18 @@ module _ (v : View) (s : Sound v) where
   unfolding ledger-of
   flows-long = flows-counted v s
 
-  through-same : (f x : ℕ) → f < v .flow-count → law-carried (ledger-of v) (law-flow-at (ledger-of v) f .step) x ≡ through (graph-of v) f x
+  through-same : (f x : ℕ) → f < v .flow-count → ledger-carried (ledger-of v) (ledger-flow-at (ledger-of v) f .step) x ≡ through (graph-of v) f x
   through-same f x l =
-      ap (λ q. law-carried (ledger-of v) (q .step) x) (flow-same f l) ∙ carried-same (flow-at (graph-of v) f .step) x (s .flows-good f l .2)
+      ap (λ q. ledger-carried (ledger-of v) (q .step) x) (flow-same f l) ∙ carried-same (flow-at (graph-of v) f .step) x (s .flows-good f l .2)
 
-  end-same : (f : ℕ) → f < v .flow-count → law-flow-at (ledger-of v) f .to ≡ flow-at (graph-of v) f .to
+  end-same : (f : ℕ) → f < v .flow-count → ledger-flow-at (ledger-of v) f .to ≡ flow-at (graph-of v) f .to
   end-same f l = ap (λ q. q .to) (flow-same f l)
 
-  open-same : (f : ℕ) → f < v .flow-count → law-node-at (ledger-of v) (law-flow-at (ledger-of v) f .to) .verified ≡ node-at (graph-of v) (flow-at (graph-of v) f .to) .verified
+  open-same : (f : ℕ) → f < v .flow-count → ledger-node-at (ledger-of v) (ledger-flow-at (ledger-of v) f .to) .verified ≡ node-at (graph-of v) (flow-at (graph-of v) f .to) .verified
   open-same f l =
-      ap (λ k. law-node-at (ledger-of v) k .verified) (end-same f l) ∙ ap (λ q. q .verified) (node-same (flow-at (graph-of v) f .to) (s .flows-good f l .1))
+      ap (λ k. ledger-node-at (ledger-of v) k .verified) (end-same f l) ∙ ap (λ q. q .verified) (node-same (flow-at (graph-of v) f .to) (s .flows-good f l .1))
 
-  pub trail-to : (fs : List ℕ) (a x b y : ℕ) → Trail (graph-of v) a x fs b y → Law-trail (ledger-of v) a x fs b y
+  pub trail-to : (fs : List ℕ) (a x b y : ℕ) → Trail (graph-of v) a x fs b y → Ledger-trail (ledger-of v) a x fs b y
   trail-to [] a x b y trail = trail
   trail-to (f ∷ fs) a x b y trail =
       let l = trail .0 in
@@ -105,16 +105,16 @@ module _ (v : View) (s : Sound v) where
         ap (λ q. q .from) (flow-same f l) ∙ trail .1,
         subst (λ (k : ℕ). 0 < k) (sym (through-same f x l)) (some-positive (through (graph-of v) f x) (trail .2)),
         open-same f l ∙ trail .3,
-        subst (λ (k : ℕ). Law-trail (ledger-of v) k (law-carried (ledger-of v) (law-flow-at (ledger-of v) f .step) x) fs b y) (sym (end-same f l))
-            (subst (λ (u : ℕ). Law-trail (ledger-of v) (flow-at (graph-of v) f .to) u fs b y) (sym (through-same f x l)) rest),
+        subst (λ (k : ℕ). Ledger-trail (ledger-of v) k (ledger-carried (ledger-of v) (ledger-flow-at (ledger-of v) f .step) x) fs b y) (sym (end-same f l))
+            (subst (λ (u : ℕ). Ledger-trail (ledger-of v) (flow-at (graph-of v) f .to) u fs b y) (sym (through-same f x l)) rest),
       )
 
-  pub trail-from : (fs : List ℕ) (a x b y : ℕ) → Law-trail (ledger-of v) a x fs b y → Trail (graph-of v) a x fs b y
+  pub trail-from : (fs : List ℕ) (a x b y : ℕ) → Ledger-trail (ledger-of v) a x fs b y → Trail (graph-of v) a x fs b y
   trail-from [] a x b y trail = trail
   trail-from (f ∷ fs) a x b y trail =
       let l : f < v .flow-count = omega (arith, trail .0, flows-long) in
-      let rest = subst (λ (u : ℕ). Law-trail (ledger-of v) (flow-at (graph-of v) f .to) u fs b y) (through-same f x l)
-      (subst (λ (k : ℕ). Law-trail (ledger-of v) k (law-carried (ledger-of v) (law-flow-at (ledger-of v) f .step) x) fs b y) (end-same f l) (trail .4)) in (
+      let rest = subst (λ (u : ℕ). Ledger-trail (ledger-of v) (flow-at (graph-of v) f .to) u fs b y) (through-same f x l)
+      (subst (λ (k : ℕ). Ledger-trail (ledger-of v) k (ledger-carried (ledger-of v) (ledger-flow-at (ledger-of v) f .step) x) fs b y) (end-same f l) (trail .4)) in (
         l,
         sym (ap (λ q. q .from) (flow-same f l)) ∙ trail .1,
         positive-some (through (graph-of v) f x) (subst (λ (k : ℕ). 0 < k) (through-same f x l) (trail .2)),
@@ -122,7 +122,7 @@ module _ (v : View) (s : Sound v) where
         trail-from fs (flow-at (graph-of v) f .to) (through (graph-of v) f x) b y rest,
       )
 
-  marks-same : (n : ℕ) → n < v .node-count → law-node-at (ledger-of v) n .marks ≡ node-at (graph-of v) n .marks
+  marks-same : (n : ℕ) → n < v .node-count → ledger-node-at (ledger-of v) n .marks ≡ node-at (graph-of v) n .marks
   marks-same n l = ap (λ q. q .marks) (node-same n l)
 
   pub path-to : (fs : List ℕ) (b y : ℕ) → FlowPath (graph-of v) fs b y → Flow-path (ledger-of v) fs b y

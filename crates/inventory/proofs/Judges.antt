@@ -18,12 +18,12 @@ use Rattle.policy.specs.Clauses.{allows, decider, evidence}
 use Rattle.lattice.specs.Schemes.{Lattices}
 use Rattle.policy.specs.Words.{in-range}
 use Rattle.policy.specs.Labels.{or-top, declared}
-use Rattle.ledger.specs.Ledger.{Ledger, Node, judge, path, label-at, same-sizes, good-row, node-at as law-node-at, flow-at as law-flow-at}
+use Rattle.ledger.specs.Ledger.{Ledger, Node, judge, path, label-at, same-sizes, good-row, node-at as ledger-node-at, flow-at as ledger-flow-at}
 use Rattle.policy.specs.Policies.{Policy}
 use Rattle.lattice.specs.declared.refusal.Refusal.{Refusal}
 use Rattle.lattice.specs.Schemes.{scheme-sizes}
 use Rattle.ledger.specs.Run.{Answer, Answered, judged, Label-of}
-use Rattle.ledger.specs.Sound.{Sound as Law-sound, Good-node as Law-good-node}
+use Rattle.ledger.specs.Sound.{Sound as Ledger-sound, Good-node as Ledger-good-node}
 use Rattle.ledger.proofs.Follows.{path-shown}
 use Rattle.ledger.proofs.Promises.{runs-keep-the-promise}
 use Rattle.lattice.proofs.Tests.{from-true}
@@ -54,14 +54,14 @@ same-sizes-equal a b e =
     }
 
 module _ (v : View) (s : Sound v) where
-  pub ledger-sound : Law-sound (ledger-of v)
+  pub ledger-sound : Ledger-sound (ledger-of v)
   unfolding ledger-of
   ledger-sound = record {
     sizes = record { store = s .sized .0; purpose = s .sized .1; role = s .sized .2; types = s .sized .3 };
     nodes = λ n l.
         let below : n < v .node-count = omega (arith, l, nodes-counted v s) in
         let g = s .nodes-good n below in
-        subst (Law-good-node (v .sizes)) (sym (node-same v s n below))
+        subst (Ledger-good-node (v .sizes)) (sym (node-same v s n below))
         (record { store = from-true _ (g .0); purpose = from-true _ (g .1); role = from-true _ (g .2); marks = from-true _ (g .3) });
     steps = λ t l.
         let below : t < v .step-count = omega (arith, l, steps-counted v s) in

@@ -75,7 +75,7 @@ parts v s = (
   ),
 )
 
--- what the law asks of an answer, by why the call is declined
+-- what the ledger asks of an answer, by why the call is declined
 abbrev Answered-by : Ledger → Call → Answer → Option Refusal → Type 0
 Answered-by L c answer o = elim o [ Some r ↦ answer ≡ refused r | None ↦ Given L c answer ]
 

@@ -1,4 +1,4 @@
-// The struct with its invariant, in a file of its own: it imports every `ghost use` of its file.
+//! The struct with its invariant, in a file of its own: it imports every `ghost use` of its file.
 ghost use Rattle.inventory.specs.Sound.{Good-sizes, Node-room, Flow-room, Step-room, Good-nodes, Good-flows, Apart, Good-rows, Bounded-rows, Silent-rows, Settled-labels};
 use flows::FlowRecord;
 use flows::NodeRecord;

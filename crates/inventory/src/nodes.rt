@@ -1,4 +1,4 @@
-// What the calls make of one node's record.
+//! What the calls make of one node's record.
 ghost use mathlib.Core.Path.{_≡_};
 ghost use Prim.Native.Nat.{ℕ, _<_, _^_};
 ghost use Rattle.lattice.specs.Sets.{with, without};

@@ -1,4 +1,4 @@
-// The rows of steps: what each value becomes.
+//! The rows of steps: what each value becomes.
 ghost use mathlib.Core.Path.{_≡_};
 ghost use mathlib.Core.List.{_++_};
 ghost use Prim.Native.Nat.{ℕ, _-_, _<_, _≤_};

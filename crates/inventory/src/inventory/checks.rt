@@ -1,4 +1,4 @@
-// Why a call is declined, by the counts.
+//! Why a call is declined, by the counts.
 ghost use mathlib.Core.Path.{_≡_};
 ghost use Prim.Native.Nat.{_<_};
 ghost use Rattle.std.specs.Results.{Cases};

@@ -1,4 +1,4 @@
-// The editing calls: a module below the struct's, so that it sees the private fields.
+//! The editing calls: a module below the struct's, so that it sees the private fields.
 ghost use mathlib.Core.Path.{_≡_};
 ghost use denote.Ref.{name};
 ghost use Rattle.inventory.specs.Inventories.{view};

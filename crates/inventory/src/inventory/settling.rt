@@ -1,4 +1,4 @@
-// What reaches the nodes.
+//! What reaches the nodes.
 ghost use mathlib.Core.Path.{_≡_};
 ghost use Prim.Native.Nat.{ℕ, _<_};
 ghost use denote.Ref.{name};
