@@ -2,6 +2,8 @@
 #[cfg(test)]
 mod clauses;
 #[cfg(test)]
+mod inventory;
+#[cfg(test)]
 mod lattices;
 #[cfg(test)]
 mod office;
