@@ -1,11 +1,11 @@
 //! The calls at their limits, and what a refused one leaves.
 use crate::memory;
 use crate::memory::Ladders;
-use inventory::Answer;
-use inventory::Call;
 use inventory::Inventory;
 use lattice::RefusalDisplay;
 use lattice::Sizes;
+use runs::Answer;
+use runs::Call;
 use std::error::AnyError;
 
 const SIZES: Sizes = Sizes {

@@ -1,6 +1,4 @@
 //! Memory for a small inventory, and a number that tells whether any of it was changed.
-use inventory::Answer;
-use inventory::Call;
 use inventory::FlowRecord;
 use inventory::NodeRecord;
 use lattice::Ladder;
@@ -9,6 +7,8 @@ use lattice::Scheme;
 use lattice::Sizes;
 use policy::Policy;
 use policy::SchemeVocabulary;
+use runs::Answer;
+use runs::Call;
 use std::alloc::AllocError;
 use std::alloc::Global;
 
@@ -99,7 +99,7 @@ pub fn run(
     let mut memory = Memory::new();
     let mut policies = [Policy::new(), Policy::new()];
     let _ = policies[0].read(&[0x2000_0000, 0x5000_0000], &ladders[0]);
-    let answers = inventory::run(
+    let answers = runs::run(
         heap,
         sizes,
         &mut memory.nodes,

@@ -10,7 +10,7 @@ use lib.ListN.{length}
 use Rattle.std.proofs.shelf.Tests.{true≢false}
 use Rattle.lattice.specs.Sets.{has, with, without, every, some-below, least, all-of, some-of, gather, image}
 use Rattle.lattice.specs.Order.{is-meet, is-join, meet, join}
-use Rattle.lattice.specs.declared.refusal.Reason.the-variants.{ShortPiece}
+use Rattle.refusals.specs.declared.refusal.Reason.the-variants.{ShortPiece}
 use Rattle.lattice.proofs.Members.{has-empty}
 use Rattle.policy.specs.declared.label.Label.{Label}
 use Rattle.policy.specs.Clauses.{Clause, allow, deny, none, more, covered-in, overlap, narrowed-in, allows, decider, evidence}

@@ -10,7 +10,7 @@ use Rattle.std.specs.declared.option.Option.the-variants.{Some}
 use Rattle.lattice.specs.Order.{Order, meet, join, table, ladder, pair}
 use Rattle.lattice.specs.Schemes.{Scheme, scheme-sizes}
 use Rattle.lattice.specs.declared.sizes.Sizes.{Sizes}
-use Rattle.lattice.specs.declared.refusal.Reason.the-variants.{ShortPiece}
+use Rattle.refusals.specs.declared.refusal.Reason.the-variants.{ShortPiece}
 use Rattle.policy.specs.declared.label.Label.{Label}
 use Rattle.policy.specs.Labels.{declared}
 use Rattle.policy.specs.Clauses.{Clause, allows, decider, evidence}

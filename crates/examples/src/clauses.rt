@@ -6,13 +6,13 @@ use lattice::LadderLattice;
 use lattice::PairLattice;
 use lattice::Refusal;
 use lattice::TableLattice;
-use lattice::refusal::RefusalDebug;
 use policy::Label;
 use policy::Policy;
 use policy::SchemeVocabulary;
 use policy::Verdict;
 use policy::policy::judging::VerdictDebug;
 use policy::policy::judging::VerdictPartialEq;
+use refusals::refusal::RefusalDebug;
 use std::test::*;
 
 fn verdict(words: &[u32], purpose: u64, types: u64) -> Result<Verdict, Refusal> {

@@ -2,8 +2,6 @@
 use crate::office::ADVERTS;
 use crate::office::TOGETHER;
 use crate::office::office;
-use inventory::Answer;
-use inventory::Call;
 use inventory::FlowRecord;
 use inventory::Inventory;
 use inventory::NodeRecord;
@@ -14,15 +12,17 @@ use lattice::Reason;
 use lattice::Refusal;
 use lattice::Sizes;
 use lattice::TableLattice;
-use lattice::refusal::LayerDebug;
-use lattice::refusal::LayerPartialEq;
-use lattice::refusal::RefusalDebug;
-use lattice::refusal::RefusalPartialEq;
 use policy::Policy;
 use policy::SchemeVocabulary;
 use policy::Verdict;
 use policy::policy::judging::VerdictDebug;
 use policy::policy::judging::VerdictPartialEq;
+use refusals::refusal::LayerDebug;
+use refusals::refusal::LayerPartialEq;
+use refusals::refusal::RefusalDebug;
+use refusals::refusal::RefusalPartialEq;
+use runs::Answer;
+use runs::Call;
 use std::alloc::Global;
 use std::test::*;
 
@@ -642,7 +642,7 @@ fn answers(heap: Global, calls: &[Call]) -> Result<Vec<Option<Answer>>, Fail> {
     let scheme = office()?;
     let mut policy = Policy::new();
     policy.read(&ADVERTS, &scheme)?;
-    let all = inventory::run(
+    let all = runs::run(
         heap,
         SIZES,
         &mut nodes,

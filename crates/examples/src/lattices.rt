@@ -13,10 +13,10 @@ use lattice::TableLattice;
 use lattice::attribute::AttributeDebug;
 use lattice::attribute::AttributePartialEq;
 use lattice::bitset;
-use lattice::refusal::LayerDebug;
-use lattice::refusal::LayerPartialEq;
-use lattice::refusal::RefusalDebug;
-use lattice::refusal::RefusalPartialEq;
+use refusals::refusal::LayerDebug;
+use refusals::refusal::LayerPartialEq;
+use refusals::refusal::RefusalDebug;
+use refusals::refusal::RefusalPartialEq;
 use std::test::*;
 
 // Three values between the bottom and the top, none of them below another.

@@ -7,10 +7,10 @@ use lattice::PairLattice;
 use lattice::Reason;
 use lattice::Refusal;
 use lattice::TableLattice;
-use lattice::refusal::RefusalDebug;
-use lattice::refusal::RefusalPartialEq;
 use policy::Policy;
 use policy::SchemeVocabulary;
+use refusals::refusal::RefusalDebug;
+use refusals::refusal::RefusalPartialEq;
 use std::test::*;
 
 const ALLOW: u32 = 0x1000_0000;

@@ -11,9 +11,9 @@ use Rattle.std.proofs.shelf.Tests.{and-parts, ltb-true, lt-ltb, le-ltb, cond-tr
 use Rattle.std.specs.declared.option.Option.{Option}
 use Rattle.std.specs.declared.option.Option.the-variants.{Some, None}
 use Rattle.lattice.specs.Sets.{has}
-use Rattle.lattice.specs.declared.refusal.Reason.the-variants.{NotInLabel, ShortPiece}
+use Rattle.refusals.specs.declared.refusal.Reason.the-variants.{NotInLabel, ShortPiece}
 use Rattle.ledger.specs.Ledger.{Ledger, path, good-value, Flow-path, Shortest, Brought}
-use Rattle.lattice.specs.declared.refusal.Refusal.{Refusal}
+use Rattle.refusals.specs.declared.refusal.Refusal.{Refusal}
 use Rattle.ledger.specs.Run.{Answer, Answered, refused, shown}
 use Rattle.lattice.proofs.Tests.{is-true, from-true}
 use Rattle.inventory.specs.View.{View, ledger-of, record-at}

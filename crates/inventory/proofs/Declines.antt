@@ -9,11 +9,11 @@ use lib.ListN.{length, take, getD}
 use Rattle.std.proofs.shelf.Tests.{and-parts, eqb-true, ltb-true, not-true}
 use Rattle.std.specs.declared.option.Option.{Option}
 use Rattle.std.specs.declared.option.Option.the-variants.{Some, None}
-use Rattle.lattice.specs.declared.refusal.Refusal.{Refusal}
+use Rattle.refusals.specs.declared.refusal.Refusal.{Refusal}
 use Rattle.policy.specs.Policies.{Policy}
 use Rattle.lattice.specs.Schemes.{Scheme}
-use Rattle.lattice.specs.declared.refusal.Reason.{Reason}
-use Rattle.lattice.specs.declared.refusal.Reason.the-variants.{NoNode, NoStep, BadArgument, FlowStands, NoFlow, NoRoom, Unsettled, SizesDiffer}
+use Rattle.refusals.specs.declared.refusal.Reason.{Reason}
+use Rattle.refusals.specs.declared.refusal.Reason.the-variants.{NoNode, NoStep, BadArgument, FlowStands, NoFlow, NoRoom, Unsettled, SizesDiffer}
 use Rattle.lattice.specs.Sets.{every}
 use Rattle.policy.specs.Words.{in-range}
 use Rattle.ledger.specs.Ledger.{Call, enter, step, mark, unmark, verify, draw, strike, settle, judge, path, same-sizes, declined, unless, good-row, good-value, stands}

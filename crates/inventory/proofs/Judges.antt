@@ -20,7 +20,7 @@ use Rattle.policy.specs.Words.{in-range}
 use Rattle.policy.specs.Labels.{or-top, declared}
 use Rattle.ledger.specs.Ledger.{Ledger, Node, judge, path, label-at, same-sizes, good-row, node-at as ledger-node-at, flow-at as ledger-flow-at}
 use Rattle.policy.specs.Policies.{Policy}
-use Rattle.lattice.specs.declared.refusal.Refusal.{Refusal}
+use Rattle.refusals.specs.declared.refusal.Refusal.{Refusal}
 use Rattle.lattice.specs.Schemes.{scheme-sizes}
 use Rattle.ledger.specs.Run.{Answer, Answered, judged, Label-of}
 use Rattle.ledger.specs.Sound.{Sound as Ledger-sound, Good-node as Ledger-good-node}
@@ -28,7 +28,7 @@ use Rattle.ledger.proofs.Follows.{path-shown}
 use Rattle.ledger.proofs.Promises.{runs-keep-the-promise}
 use Rattle.lattice.proofs.Tests.{from-true}
 use Rattle.policy.specs.declared.policy.judging.Verdict.{Verdict}
-use Rattle.lattice.specs.declared.refusal.Refusal.{Refusal}
+use Rattle.refusals.specs.declared.refusal.Refusal.{Refusal}
 use Rattle.inventory.specs.Answers.{judged-answer}
 use Rattle.inventory.specs.Promised.{Promised, Path-promised}
 use Rattle.inventory.specs.View.{View, ledger-of, record-at, held-at, nodes-of, steps-of, flows-of, node-of}

@@ -13,8 +13,8 @@ use Rattle.std.proofs.shelf.Lists.{length-set, getD-set-same, getD-set-other, t
 use Rattle.std.proofs.shelf.Tests.{cases-eq, and-parts, eqb-true, ltb-true, both-ways, not-true}
 use Rattle.flows.specs.declared.records.NodeRecord.{NodeRecord}
 use Rattle.flows.specs.declared.records.FlowRecord.{FlowRecord}
-use Rattle.lattice.specs.declared.refusal.Reason.{Reason}
-use Rattle.lattice.specs.declared.refusal.Reason.the-variants.{NoNode, NoStep, BadArgument, FlowStands, NoFlow, NoRoom, Unsettled, SizesDiffer}
+use Rattle.refusals.specs.declared.refusal.Reason.{Reason}
+use Rattle.refusals.specs.declared.refusal.Reason.the-variants.{NoNode, NoStep, BadArgument, FlowStands, NoFlow, NoRoom, Unsettled, SizesDiffer}
 use Rattle.lattice.specs.Sets.{with, without, every}
 use Rattle.policy.specs.Words.{in-range}
 use Rattle.ledger.specs.Ledger.{Flow, Call, enter, step, mark, unmark, verify, draw, strike, settle, judge, path, unless, good-row, good-value, stands, flow-number, same-flow}

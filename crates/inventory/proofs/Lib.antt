@@ -12,4 +12,3 @@ pub mod Bridge
 pub mod Resettles
 pub mod Asks
 pub mod Judges
-pub mod Sequences

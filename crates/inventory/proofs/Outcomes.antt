@@ -8,9 +8,9 @@ use Rattle.std.specs.declared.result.Result.{Result}
 use Rattle.std.specs.declared.result.Result.the-variants.{Ok, Err}
 use Rattle.std.specs.Results.{ErrBy}
 use Rattle.ledger.specs.Ledger.{Ledger, Call, declined, accepted, after, changing}
-use Rattle.lattice.specs.declared.refusal.Refusal.{Refusal}
+use Rattle.refusals.specs.declared.refusal.Refusal.{Refusal}
 use Rattle.ledger.specs.Run.{Answer, refused, Given, Answered}
-use Rattle.lattice.specs.declared.refusal.Refusal.{Refusal}
+use Rattle.refusals.specs.declared.refusal.Refusal.{Refusal}
 use Rattle.inventory.specs.declared.inventory.Inventory.{Inventory}
 use Rattle.inventory.specs.View.{View, ledger-of, stored, written, Called}
 use Rattle.inventory.specs.Sound.{Sound, Good-sizes, Node-room, Flow-room, Step-room, Good-nodes, Good-flows, Apart, Good-rows, Bounded-rows, Silent-rows, Settled-labels}

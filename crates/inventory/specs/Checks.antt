@@ -4,10 +4,10 @@ use mathlib.Core.Bool.{Bool, not, _&&_}
 use lib.Dec.{ltb}
 use Rattle.std.specs.declared.option.Option.{Option}
 use Rattle.std.specs.declared.option.Option.the-variants.{Some, None}
-use Rattle.lattice.specs.declared.refusal.Reason.the-variants.{NoNode, NoStep, BadArgument, FlowStands, NoFlow, NoRoom, Unsettled, SizesDiffer}
+use Rattle.refusals.specs.declared.refusal.Reason.the-variants.{NoNode, NoStep, BadArgument, FlowStands, NoFlow, NoRoom, Unsettled, SizesDiffer}
 use Rattle.policy.specs.Words.{in-range}
 use Rattle.lattice.specs.declared.sizes.Sizes.{Sizes}
-use Rattle.lattice.specs.declared.refusal.Refusal.{Refusal}
+use Rattle.refusals.specs.declared.refusal.Refusal.{Refusal}
 use Rattle.ledger.specs.Ledger.{Call, enter, step, mark, unmark, verify, draw, strike, settle, judge, path, unless, good-row, good-value, stands, same-sizes}
 use Rattle.lattice.specs.Faults.{or-else}
 use Rattle.lattice.specs.Schemes.{scheme-sizes}

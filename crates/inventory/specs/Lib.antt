@@ -6,4 +6,3 @@ pub mod Checks
 pub mod Resettled
 pub mod Paths
 pub mod Promised
-pub mod Calls

@@ -7,7 +7,7 @@ use lib.ListN.{length, getD}
 use Rattle.std.specs.declared.option.Option.{Option}
 use Rattle.std.specs.declared.option.Option.the-variants.{Some, None}
 use Rattle.lattice.specs.Sets.{has}
-use Rattle.lattice.specs.declared.refusal.Reason.the-variants.{NotInLabel, ShortPiece}
+use Rattle.refusals.specs.declared.refusal.Reason.the-variants.{NotInLabel, ShortPiece}
 use Rattle.ledger.specs.Ledger.{path}
 use Rattle.ledger.specs.Run.{Answer, refused, shown}
 use Rattle.inventory.specs.View.{View, record-at}

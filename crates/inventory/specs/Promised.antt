@@ -6,7 +6,7 @@ use lib.ListN.{length}
 use Rattle.std.specs.declared.result.Result.{Result}
 use Rattle.std.specs.declared.result.Result.the-variants.{Ok, Err}
 use Rattle.lattice.specs.Schemes.{Scheme}
-use Rattle.lattice.specs.declared.refusal.Refusal.{Refusal}
+use Rattle.refusals.specs.declared.refusal.Refusal.{Refusal}
 use Rattle.policy.specs.Policies.{Policy}
 use Rattle.policy.specs.declared.policy.judging.Verdict.{Verdict}
 use Rattle.ledger.specs.Ledger.{Ledger}

@@ -3,7 +3,6 @@ pub mod Order
 pub mod Bounds
 pub mod Algebra
 pub mod Codes
-pub mod Refusals
 pub mod Faults
 pub mod Attributes
 pub mod Schemes

@@ -10,8 +10,8 @@ ghost use Rattle.lattice.specs.Order.{table};
 ghost use Rattle.lattice.specs.Bounds.{Ordered};
 ghost use Rattle.lattice.specs.Faults.{Clean, stray-bits, stray, irreflexive, twinned, gapped, unbounded, joinless, order-fault, fault};
 use crate::bitset::contains;
-use crate::refusal::Reason;
-use crate::refusal::Refusal;
+use refusals::Reason;
+use refusals::Refusal;
 
 // The first row that equals the given one.
 pub fn row_index(rows: &[u64], wanted: u64) -> Option<usize>

@@ -8,8 +8,8 @@ ghost use Rattle.lattice.specs.Order.{Lattice as Laws, table, ladder};
 ghost use Rattle.lattice.specs.Faults.{Clean, fault, answer};
 use crate::Lattice;
 use crate::bitset::contains;
-use crate::refusal::Refusal;
 use crate::rows;
+use refusals::Refusal;
 
 #[derive(Drop)]
 pub struct Table {

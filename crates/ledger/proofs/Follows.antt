@@ -11,9 +11,9 @@ use Rattle.std.proofs.shelf.Tests.{true≢false}
 use Rattle.std.specs.declared.option.Option.{Option}
 use Rattle.std.specs.declared.option.Option.the-variants.{Some, None}
 use Rattle.lattice.specs.Sets.{has}
-use Rattle.lattice.specs.declared.refusal.Reason.{Reason}
+use Rattle.refusals.specs.declared.refusal.Reason.{Reason}
 use Rattle.ledger.specs.Ledger.{Ledger, Call, enter, step, mark, unmark, verify, draw, strike, settle, judge, path, unless, good-value, node-there, declined, accepted, after, changing, Flow-path, Brought, Shortest}
-use Rattle.lattice.specs.declared.refusal.Refusal.{Refusal}
+use Rattle.refusals.specs.declared.refusal.Refusal.{Refusal}
 use Rattle.lattice.specs.Faults.{or-else}
 use Rattle.ledger.specs.Run.{Answer, refused, shown, Given, Answered, Path-shown, Event, is-change, Shows-evidence, Paths-follow, Every-call-answered}
 use Rattle.ledger.specs.Sound.{Sound}

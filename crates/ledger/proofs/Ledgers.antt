@@ -14,10 +14,10 @@ use Rattle.std.specs.declared.option.Option.the-variants.{Some, None}
 use Rattle.lattice.specs.Sets.{has, with, without, every}
 use Rattle.lattice.specs.declared.sizes.Sizes.{Sizes}
 use Rattle.policy.specs.Words.{in-range}
-use Rattle.lattice.specs.declared.refusal.Reason.{Reason}
+use Rattle.refusals.specs.declared.refusal.Reason.{Reason}
 use Rattle.ledger.specs.Ledger.{Ledger, Node, Flow, Call, enter, step, mark, unmark, verify, draw, strike, settle, judge, path, nearest-size, counting, fresh, unless, stands, flow-number, good-row, good-value, node-there, declined, no-node-yet, node-at, flow-at, with-nodes, with-flows, with-marks, with-verified, same-flow, struck, struck-at, accepted, after}
 use Rattle.policy.specs.Policies.{Policy}
-use Rattle.lattice.specs.declared.refusal.Refusal.{Refusal}
+use Rattle.refusals.specs.declared.refusal.Refusal.{Refusal}
 use Rattle.lattice.specs.Faults.{or-else}
 use Rattle.ledger.specs.Sound.{Good-size, Good-sizes, Good-node, Good-flow, Sound}
 use Rattle.policy.proofs.Sets.{every-from}

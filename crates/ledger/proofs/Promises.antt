@@ -18,7 +18,7 @@ use Rattle.lattice.specs.Schemes.{Lattices}
 use Rattle.policy.specs.Laws.{Subset}
 use Rattle.ledger.specs.Ledger.{Ledger, Call, enter, step, mark, unmark, verify, draw, strike, settle, judge, path, declined, after, fresh, Brought, Can-bring, label-at}
 use Rattle.policy.specs.Policies.{Policy}
-use Rattle.lattice.specs.declared.refusal.Refusal.{Refusal}
+use Rattle.refusals.specs.declared.refusal.Refusal.{Refusal}
 use Rattle.ledger.specs.Run.{Answer, refused, judged, Label-of, Given, Answered, Allowed, Passed-exactly, Evident, Event, Paths-follow, Judged-right, Every-call-answered, Every-judgement-right}
 use Rattle.ledger.specs.Sound.{Sound, Lattices-brought, Every-call-brings-lattices}
 use Rattle.ledger.specs.Promise.{Runs-keep-the-promise, Ledgers-stay-sound, Fresh-runs-keep-the-promise}

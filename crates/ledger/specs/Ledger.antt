@@ -10,14 +10,14 @@ use Rattle.std.specs.declared.option.Option.the-variants.{Some, None}
 use Rattle.lattice.specs.Sets.{has, with, without, every}
 use Rattle.lattice.specs.Schemes.{Scheme, scheme-sizes}
 use Rattle.lattice.specs.Faults.{or-else}
-use Rattle.lattice.specs.declared.refusal.Refusal.{Refusal}
+use Rattle.refusals.specs.declared.refusal.Refusal.{Refusal}
 use Rattle.policy.specs.Policies.{Policy}
 use Rattle.policy.specs.declared.label.Label.{Label}
 use Rattle.lattice.specs.declared.sizes.Sizes.{Sizes}
 use Rattle.policy.specs.Words.{in-range}
 use Rattle.policy.specs.Labels.{or-top}
-use Rattle.lattice.specs.declared.refusal.Reason.{Reason}
-use Rattle.lattice.specs.declared.refusal.Reason.the-variants.{NoNode, NoStep, BadArgument, FlowStands, NoFlow, NoRoom, Unsettled, SizesDiffer}
+use Rattle.refusals.specs.declared.refusal.Reason.{Reason}
+use Rattle.refusals.specs.declared.refusal.Reason.the-variants.{NoNode, NoStep, BadArgument, FlowStands, NoFlow, NoRoom, Unsettled, SizesDiffer}
 
 -- a node as entered, with its marks
 pub record Node : Type 0 where

@@ -12,11 +12,11 @@ use Rattle.lattice.specs.Sets.{has, without}
 use Rattle.lattice.specs.Order.{Lattice}
 use Rattle.lattice.specs.Schemes.{Scheme}
 use Rattle.policy.specs.Clauses.{Clause, allows, decider, evidence}
-use Rattle.lattice.specs.declared.refusal.Reason.{Reason}
-use Rattle.lattice.specs.declared.refusal.Reason.the-variants.{NotInLabel, ShortPiece}
+use Rattle.refusals.specs.declared.refusal.Reason.{Reason}
+use Rattle.refusals.specs.declared.refusal.Reason.the-variants.{NotInLabel, ShortPiece}
 use Rattle.ledger.specs.Ledger.{Ledger, Call, enter, step, mark, unmark, verify, draw, strike, settle, judge, path, declined, after, changing, Flow-path, Brought, Can-bring, Shortest, label-at}
 use Rattle.policy.specs.Policies.{Policy}
-use Rattle.lattice.specs.declared.refusal.Refusal.{Refusal}
+use Rattle.refusals.specs.declared.refusal.Refusal.{Refusal}
 
 pub data Answer : Type 0 where
   refused : Refusal → Answer

@@ -20,9 +20,9 @@ use Rattle.policy.specs.declared.clause.Kind.{Kind}
 use Rattle.policy.specs.declared.clause.Kind.the-variants.{Allow, Deny}
 use Rattle.policy.specs.declared.draft.Phase.{Phase}
 use Rattle.policy.specs.declared.draft.Phase.the-variants.{Listing, Excepting, Excepted}
-use Rattle.lattice.specs.declared.refusal.Reason.{Reason}
-use Rattle.lattice.specs.declared.refusal.Reason.the-variants.{MisplacedWord, BadValue, NotRising, SameKind, TooNested}
-use Rattle.lattice.specs.declared.refusal.Refusal.{Refusal}
+use Rattle.refusals.specs.declared.refusal.Reason.{Reason}
+use Rattle.refusals.specs.declared.refusal.Reason.the-variants.{MisplacedWord, BadValue, NotRising, SameKind, TooNested}
+use Rattle.refusals.specs.declared.refusal.Refusal.{Refusal}
 use Rattle.policy.specs.declared.word.Word.{Word}
 use Rattle.policy.specs.declared.word.Word.the-variants.{Head, Value, Except, End, NoWord}
 use Rattle.lattice.specs.Sets.{has}

@@ -14,8 +14,8 @@ use Rattle.std.specs.declared.result.Result.{Result}
 use Rattle.std.specs.declared.result.Result.the-variants.{Ok, Err}
 use Rattle.lattice.specs.declared.sizes.Sizes.{Sizes}
 use Rattle.policy.specs.declared.clause.ClauseRecord.{ClauseRecord}
-use Rattle.lattice.specs.declared.refusal.Reason.the-variants.{WordCount}
-use Rattle.lattice.specs.declared.refusal.Refusal.{Refusal}
+use Rattle.refusals.specs.declared.refusal.Reason.the-variants.{WordCount}
+use Rattle.refusals.specs.declared.refusal.Refusal.{Refusal}
 use Rattle.policy.specs.Clauses.{Clause, Clauses, allow, deny, none, more, clause-count}
 use Rattle.policy.specs.Words.{Small, Written, spelled, well-formed, depth, fault-from, words-fault, nothing-read, Accepted-exactly, Spelled-once}
 use Rattle.policy.specs.Walk.{walk, empty}

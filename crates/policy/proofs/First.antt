@@ -19,9 +19,9 @@ use Rattle.policy.specs.declared.draft.Phase.the-variants.{Listing}
 use Rattle.policy.specs.declared.draft.Open.{Open}
 use Rattle.policy.specs.declared.draft.Draft.{Draft}
 use Rattle.policy.specs.declared.clause.ClauseRecord.{ClauseRecord}
-use Rattle.lattice.specs.declared.refusal.Reason.{Reason}
-use Rattle.lattice.specs.declared.refusal.Reason.the-variants.{MisplacedWord, WordCount}
-use Rattle.lattice.specs.declared.refusal.Refusal.{Refusal}
+use Rattle.refusals.specs.declared.refusal.Reason.{Reason}
+use Rattle.refusals.specs.declared.refusal.Reason.the-variants.{MisplacedWord, WordCount}
+use Rattle.refusals.specs.declared.refusal.Refusal.{Refusal}
 use Rattle.policy.specs.declared.word.Word.{Word}
 use Rattle.policy.specs.declared.word.Word.the-variants.{Head, Value, Except, End, NoWord}
 use Rattle.policy.specs.Clauses.{Clause, Clauses, none, more, clause-count}

@@ -14,9 +14,9 @@ use Rattle.policy.specs.declared.label.Label.{Label}
 use Rattle.lattice.specs.declared.sizes.Sizes.{Sizes}
 use Rattle.policy.specs.declared.clause.Kind.{Kind}
 use Rattle.policy.specs.declared.clause.Kind.the-variants.{Allow, Deny}
-use Rattle.lattice.specs.declared.refusal.Reason.{Reason}
-use Rattle.lattice.specs.declared.refusal.Reason.the-variants.{MisplacedWord}
-use Rattle.lattice.specs.declared.refusal.Refusal.{Refusal}
+use Rattle.refusals.specs.declared.refusal.Reason.{Reason}
+use Rattle.refusals.specs.declared.refusal.Reason.the-variants.{MisplacedWord}
+use Rattle.refusals.specs.declared.refusal.Refusal.{Refusal}
 use Rattle.policy.specs.declared.word.Word.{Word}
 use Rattle.policy.specs.declared.word.Word.the-variants.{Head, Value, Except, End, NoWord}
 use Rattle.policy.specs.Clauses.{Clause, Clauses, allow, deny, none, more, clause-count, clauses-count}

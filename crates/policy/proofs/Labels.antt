@@ -15,8 +15,8 @@ use Rattle.policy.specs.declared.label.Label.{Label}
 use Rattle.lattice.specs.declared.sizes.Sizes.{Sizes}
 use Rattle.policy.specs.declared.clause.Kind.{Kind}
 use Rattle.policy.specs.declared.clause.Kind.the-variants.{Allow, Deny}
-use Rattle.lattice.specs.declared.refusal.Reason.{Reason}
-use Rattle.lattice.specs.declared.refusal.Reason.the-variants.{BadValue, NotRising}
+use Rattle.refusals.specs.declared.refusal.Reason.{Reason}
+use Rattle.refusals.specs.declared.refusal.Reason.the-variants.{BadValue, NotRising}
 use Rattle.policy.specs.declared.word.Word.{Word}
 use Rattle.policy.specs.declared.word.Word.the-variants.{Head, Value, Except, End, NoWord}
 use Rattle.policy.specs.Decode.{word-of, value-word-of, plain}

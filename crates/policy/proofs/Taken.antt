@@ -5,7 +5,7 @@ use Prim.Native.Nat.{ℕ, _≤_}
 use native.Mathlib.Omega.{arith}
 use lib.ListN.{length, take}
 use Rattle.std.specs.declared.option.Option.the-variants.{Some, None}
-use Rattle.lattice.specs.declared.refusal.Refusal.{Refusal}
+use Rattle.refusals.specs.declared.refusal.Refusal.{Refusal}
 use Rattle.lattice.specs.declared.sizes.Sizes.{Sizes}
 use Rattle.lattice.proofs.Sets.{none-some}
 use Rattle.policy.specs.declared.clause.ClauseRecord.{ClauseRecord}

@@ -12,7 +12,7 @@ use Rattle.std.specs.declared.option.Option.the-variants.{Some, None}
 use Rattle.std.specs.declared.result.Result.{Result}
 use Rattle.std.specs.declared.result.Result.the-variants.{Ok, Err}
 use Rattle.lattice.specs.declared.sizes.Sizes.{Sizes}
-use Rattle.lattice.specs.declared.refusal.Refusal.{Refusal}
+use Rattle.refusals.specs.declared.refusal.Refusal.{Refusal}
 use Rattle.policy.specs.declared.policy.Policy.{Policy as Held}
 use Rattle.policy.specs.Clauses.{Clause, deny, none}
 use Rattle.policy.specs.Records.{tree}

@@ -9,9 +9,9 @@ use Rattle.policy.specs.declared.clause.Kind.{Kind}
 use Rattle.policy.specs.declared.draft.Open.{Open}
 use Rattle.policy.specs.declared.clause.ClauseRecord.{ClauseRecord}
 use Rattle.policy.specs.declared.draft.Draft.{Draft}
-use Rattle.lattice.specs.declared.refusal.Reason.{Reason}
-use Rattle.lattice.specs.declared.refusal.Reason.the-variants.{MisplacedWord, BadWord}
-use Rattle.lattice.specs.declared.refusal.Refusal.{Refusal}
+use Rattle.refusals.specs.declared.refusal.Reason.{Reason}
+use Rattle.refusals.specs.declared.refusal.Reason.the-variants.{MisplacedWord, BadWord}
+use Rattle.refusals.specs.declared.refusal.Refusal.{Refusal}
 use Rattle.policy.specs.declared.word.Word.{Word}
 use Rattle.policy.specs.declared.word.Word.the-variants.{Head, Value, Except, End, NoWord}
 use Rattle.policy.specs.Words.{Frame, Reading, ended}

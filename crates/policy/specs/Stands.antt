@@ -8,7 +8,7 @@ use Rattle.std.specs.declared.result.Result.the-variants.{Ok, Err}
 use Rattle.lattice.specs.declared.sizes.Sizes.{Sizes}
 use Rattle.policy.specs.declared.clause.ClauseRecord.{ClauseRecord}
 use Rattle.policy.specs.declared.draft.Draft.{Draft}
-use Rattle.lattice.specs.declared.refusal.Refusal.{Refusal}
+use Rattle.refusals.specs.declared.refusal.Refusal.{Refusal}
 use Rattle.policy.specs.Clauses.{Clause, clause-count}
 use Rattle.policy.specs.Words.{Written, spelled, meaning, words-fault}
 use Rattle.policy.specs.Laid.{Laid-clause}

@@ -15,9 +15,9 @@ use Rattle.lattice.specs.declared.sizes.Sizes.{Sizes}
 use Rattle.policy.specs.declared.clause.Kind.{Kind}
 use Rattle.policy.specs.declared.clause.Kind.the-variants.{Allow, Deny}
 use Rattle.policy.specs.declared.clause.ClauseRecord.{ClauseRecord}
-use Rattle.lattice.specs.declared.refusal.Reason.{Reason}
-use Rattle.lattice.specs.declared.refusal.Reason.the-variants.{MisplacedWord}
-use Rattle.lattice.specs.declared.refusal.Refusal.{Refusal}
+use Rattle.refusals.specs.declared.refusal.Reason.{Reason}
+use Rattle.refusals.specs.declared.refusal.Reason.the-variants.{MisplacedWord}
+use Rattle.refusals.specs.declared.refusal.Refusal.{Refusal}
 use Rattle.policy.specs.declared.word.Word.{Word}
 use Rattle.policy.specs.declared.word.Word.the-variants.{Head, Value, Except, End, NoWord}
 use Rattle.policy.specs.Decode.{word-of}

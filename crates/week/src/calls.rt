@@ -1,7 +1,7 @@
 //! The week as a list of calls: what the reading file's keepers and the owners of the jobs ask of the inventory.
-use inventory::Answer;
-use inventory::Call;
 use lattice::bitset;
+use runs::Answer;
+use runs::Call;
 use std::alloc::AllocError;
 use std::alloc::Global;
 use std::alloc::Refused;

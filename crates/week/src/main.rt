@@ -5,8 +5,6 @@ mod office;
 mod show;
 mod telling;
 
-use inventory::Answer;
-use inventory::Call;
 use inventory::FlowRecord;
 use inventory::NodeRecord;
 use lattice::LadderLattice;
@@ -16,6 +14,8 @@ use lattice::TableLattice;
 use office::Office;
 use policy::Policy;
 use policy::SchemeVocabulary;
+use runs::Answer;
+use runs::Call;
 use std::alloc::AllocError;
 use std::alloc::Global;
 use std::error::AnyError;
@@ -41,7 +41,7 @@ fn run(
         step: 0,
     }; 8];
     let mut workspace = [0u32; 1024];
-    inventory::run(
+    runs::run(
         heap,
         schemes[0].sizes(),
         &mut nodes,

@@ -4,10 +4,10 @@ use crate::show::DataTypes;
 use crate::show::DataTypesDisplay;
 use crate::show::Flows;
 use crate::show::FlowsDisplay;
-use inventory::Answer;
-use inventory::Call;
 use lattice::RefusalDisplay;
 use policy::Verdict;
+use runs::Answer;
+use runs::Call;
 use std::error::AnyError;
 
 fn node_name(node: usize) -> &'static str {

@@ -7,7 +7,7 @@ ghost use Rattle.inventory.specs.Inventories.{view};
 ghost use Rattle.inventory.specs.View.{flows-of};
 ghost use Rattle.inventory.specs.Answers.{declined-by};
 ghost use Rattle.inventory.specs.Checks.{refusal-of, judge-refusal, ends-there};
-ghost use Rattle.lattice.specs.declared.refusal.Reason.the-variants.{Unsettled};
+ghost use Rattle.refusals.specs.declared.refusal.Reason.the-variants.{Unsettled};
 ghost use Rattle.ledger.specs.Ledger.{unless, flow-number, enter as entering, step as stepping, mark as marking, verify as verifying, path as asking, draw as drawing, strike as striking};
 ghost use mathlib.Core.Bool.{true};
 use super::Inventory;

@@ -9,7 +9,7 @@ use Rattle.std.proofs.shelf.Tests.{cases-lt, both-ways}
 use Rattle.std.specs.Results.{Cases}
 use Rattle.std.specs.declared.result.Result.{Result}
 use Rattle.std.specs.declared.result.Result.the-variants.{Ok, Err}
-use Rattle.lattice.specs.declared.refusal.Refusal.{Refusal}
+use Rattle.refusals.specs.declared.refusal.Refusal.{Refusal}
 use Rattle.ledger.specs.Ledger.{path}
 use Rattle.ledger.specs.Run.{Answered, shown}
 use Rattle.inventory.specs.Answers.{path-answer}

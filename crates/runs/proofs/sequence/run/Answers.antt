@@ -9,14 +9,14 @@ use Rattle.std.specs.declared.option.Option.{Option}
 use Rattle.ledger.specs.Ledger.{Ledger, fresh}
 use Rattle.ledger.specs.Run.{Every-call-answered}
 use Rattle.ledger.proofs.Promises.{fresh-runs-keep-the-promise}
-use Rattle.inventory.specs.declared.calls.Answer.{Answer}
-use Rattle.inventory.specs.declared.calls.Call.{Call}
-use Rattle.inventory.specs.declared.calls.Call.the-variants.{Enter}
-use Rattle.inventory.specs.Calls.{Done-by, events}
+use Rattle.runs.specs.declared.calls.Answer.{Answer}
+use Rattle.runs.specs.declared.calls.Call.{Call}
+use Rattle.runs.specs.declared.calls.Call.the-variants.{Enter}
+use Rattle.runs.specs.Calls.{Done-by, events}
 use Rattle.inventory.specs.Inventories.{view}
 use Rattle.inventory.specs.View.{View, ledger-of}
-use Rattle.inventory.proofs.Sequences.{done-next, done-matched, done-answered, all-bring}
-use Rattle.inventory.proofs.runs.run.Needs as need
+use Rattle.runs.proofs.Sequences.{done-next, done-matched, done-answered, all-bring}
+use Rattle.runs.proofs.sequence.run.Needs as need
 
 pub loop-call-holds : need.loop-call-holds
 loop-call-holds g c =

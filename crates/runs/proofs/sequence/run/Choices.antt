@@ -2,9 +2,9 @@ use mathlib.Core.Path.{_≡_}
 use denote.Ref.{name}
 use lib.ListN.{take}
 use Rattle.std.specs.Of.Vec.{vec-items}
-use Rattle.inventory.specs.Calls.{Done-by}
+use Rattle.runs.specs.Calls.{Done-by}
 use Rattle.inventory.specs.Inventories.{view}
-use Rattle.inventory.proofs.runs.run.Given as given
+use Rattle.runs.proofs.sequence.run.Given as given
 
 -- the calls so far were made one after another, over the same memory
 abbrev pub Inv-loop-call : given.InvT-loop-call

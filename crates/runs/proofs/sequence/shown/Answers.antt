@@ -6,10 +6,10 @@ use lib.ListN.{length, take}
 use Rattle.std.proofs.shelf.Lists.{take-at}
 use Rattle.ledger.specs.Ledger.{path}
 use Rattle.ledger.specs.Run.{Answered, refused, shown}
 use Rattle.inventory.specs.Inventories.{view}
 use Rattle.inventory.specs.View.{ledger-of}
-use Rattle.inventory.proofs.Sequences.{path-kept}
-use Rattle.inventory.proofs.runs.shown.Needs as need
+use Rattle.runs.proofs.Sequences.{path-kept}
+use Rattle.runs.proofs.sequence.shown.Needs as need
 
 pub returns-in-Ok : need.returns-in-Ok
 returns-in-Ok c =

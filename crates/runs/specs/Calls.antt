@@ -18,12 +18,12 @@ use Rattle.policy.specs.Policies.{policy-of}
 use Rattle.policy.specs.declared.policy.Policy.{Policy}
 use Rattle.ledger.specs.Ledger.{Ledger, Call as Ledger-call, enter, step, mark, unmark, verify, draw, strike, settle, judge, path, after}
 use Rattle.ledger.specs.Run.{Answer as Ledger-answer, refused, done, numbered, judged, shown, Answered, Event}
-use Rattle.inventory.specs.declared.calls.Call.{Call}
-use Rattle.inventory.specs.declared.calls.Call.the-variants.{Enter, Step, Mark, Unmark, Verify, Draw, Strike, Settle, Judge, Path}
-use Rattle.inventory.specs.declared.calls.Answer.{Answer}
-use Rattle.inventory.specs.declared.calls.Answer.the-variants.{Refused, Done, Numbered, Judged, Shown}
+use Rattle.runs.specs.declared.calls.Call.{Call}
+use Rattle.runs.specs.declared.calls.Call.the-variants.{Enter, Step, Mark, Unmark, Verify, Draw, Strike, Settle, Judge, Path}
+use Rattle.runs.specs.declared.calls.Answer.{Answer}
+use Rattle.runs.specs.declared.calls.Answer.the-variants.{Refused, Done, Numbered, Judged, Shown}
 use Rattle.inventory.specs.Resettled.{Resettled}
 use Rattle.inventory.specs.View.{View, ledger-of, written}
 
 abbrev pub answer-of : Answer → Ledger-answer
 answer-of (Refused e) = refused e

@@ -3,8 +3,8 @@ use mathlib.Core.Path.{_≡_}
 use native.Mathlib.Omega.{arith}
 use borrow.Author.Needs.{needs}
 use lib.ListN.{length}
-use Rattle.inventory.proofs.Sequences.{take-capped}
-use Rattle.inventory.proofs.runs.front.Needs as need
+use Rattle.runs.proofs.Sequences.{take-capped}
+use Rattle.runs.proofs.sequence.front.Needs as need
 
 pub returns : need.returns
 returns c =

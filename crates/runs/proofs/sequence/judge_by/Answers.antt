@@ -5,12 +5,12 @@ use Rattle.std.specs.declared.option.Option.the-variants.{Some, None}
 use Rattle.ledger.specs.Ledger.{Call, judge}
 use Rattle.ledger.specs.Run.{Answer, Answered}
 use Rattle.policy.specs.Policies.{policy-of}
-use Rattle.inventory.specs.Calls.{One}
+use Rattle.runs.specs.Calls.{One}
 use Rattle.inventory.specs.Inventories.{view}
 use Rattle.inventory.specs.View.{ledger-of}
-use Rattle.inventory.proofs.Sequences.{at-number, past-end, judge-kept, judged-some, judged-none, judged-without}
-use Rattle.inventory.proofs.runs.judge_by.Needs as need
-use Rattle.inventory.proofs.runs.judge_by.Needs.{then-scheme-schemes·by·then-scheme-schemes, then-scheme-schemes·by·else-scheme-schemes·then-policy-policies}
+use Rattle.runs.proofs.Sequences.{at-number, past-end, judge-kept, judged-some, judged-none, judged-without}
+use Rattle.runs.proofs.sequence.judge_by.Needs as need
+use Rattle.runs.proofs.sequence.judge_by.Needs.{then-scheme-schemes·by·then-scheme-schemes, then-scheme-schemes·by·else-scheme-schemes·then-policy-policies}
 
 pub returns-then-scheme-schemes : need.returns-then-scheme-schemes
 returns-then-scheme-schemes g c =

@@ -2,10 +2,10 @@
 use Prim.Native.Nat.{ℕ}
 use mathlib.Core.Bool.{cond}
 use lib.Dec.{leb}
-use Rattle.lattice.specs.declared.refusal.Reason.{Reason}
-use Rattle.lattice.specs.declared.refusal.Reason.the-variants.{RowCount, StrayBit, NotReflexive, NotAntisymmetric, NotTransitive, NotBounded, NoJoin, LadderSize, PairSize, WordCount, BadWord, MisplacedWord, SameKind, BadValue, NotRising, TooNested, NoNode, NoStep, BadArgument, FlowStands, NoFlow, NoRoom, Unsettled, SizesDiffer, NotInLabel, ShortPiece}
-use Rattle.lattice.specs.declared.refusal.Layer as layers
-use Rattle.lattice.specs.declared.refusal.Layer.the-variants.{Lattice, Words, Clauses, Inventory}
+use Rattle.refusals.specs.declared.refusal.Reason.{Reason}
+use Rattle.refusals.specs.declared.refusal.Reason.the-variants.{RowCount, StrayBit, NotReflexive, NotAntisymmetric, NotTransitive, NotBounded, NoJoin, LadderSize, PairSize, WordCount, BadWord, MisplacedWord, SameKind, BadValue, NotRising, TooNested, NoNode, NoStep, BadArgument, FlowStands, NoFlow, NoRoom, Unsettled, SizesDiffer, NotInLabel, ShortPiece}
+use Rattle.refusals.specs.declared.refusal.Layer as layers
+use Rattle.refusals.specs.declared.refusal.Layer.the-variants.{Lattice, Words, Clauses, Inventory}
 
 abbrev pub number-of : Reason → ℕ
 number-of RowCount = 1

@@ -1,6 +1,6 @@
 //! Why a call is refused, and where what it was given is at fault.
 ghost use mathlib.Core.Path.{_≡_};
-ghost use Rattle.lattice.specs.Refusals.{number-of, layer-of};
+ghost use Rattle.refusals.specs.Refusals.{number-of, layer-of};
 use std::fmt;
 
 /// The reasons, in the order in which they are tried.

@@ -13,18 +13,18 @@ use Rattle.std.specs.declared.option.Option.the-variants.{Some, None}
 use Rattle.std.specs.declared.result.Result.{Result}
 use Rattle.std.specs.declared.result.Result.the-variants.{Ok, Err}
 use Rattle.lattice.specs.Schemes.{Scheme, Lattices}
-use Rattle.lattice.specs.declared.refusal.Refusal.{Refusal}
+use Rattle.refusals.specs.declared.refusal.Refusal.{Refusal}
 use Rattle.policy.specs.Policies.{Policy, policy-of}
 use Rattle.policy.specs.declared.policy.Policy.{Policy as Held}
 use Rattle.ledger.specs.Ledger.{Ledger, Call as Ledger-call, enter, step, mark, unmark, verify, draw, strike, settle, judge, path, declined, after}
 use Rattle.ledger.specs.Run.{Answer as Ledger-answer, Answered, Event, Every-call-answered}
 use Rattle.ledger.specs.Sound.{Lattices-brought, Every-call-brings-lattices}
-use Rattle.inventory.specs.declared.calls.Call.{Call}
-use Rattle.inventory.specs.declared.calls.Call.the-variants.{Enter, Step, Mark, Unmark, Verify, Draw, Strike, Settle, Judge, Path}
-use Rattle.inventory.specs.declared.calls.Answer.{Answer}
-use Rattle.inventory.specs.Calls.{answer-of, Made, One, judged-by, named, event, events, Matched, Done-by}
+use Rattle.runs.specs.declared.calls.Call.{Call}
+use Rattle.runs.specs.declared.calls.Call.the-variants.{Enter, Step, Mark, Unmark, Verify, Draw, Strike, Settle, Judge, Path}
+use Rattle.runs.specs.declared.calls.Answer.{Answer}
+use Rattle.runs.specs.Calls.{answer-of, Made, One, judged-by, named, event, events, Matched, Done-by}
 use Rattle.inventory.specs.View.{View, ledger-of}
 use Rattle.inventory.proofs.Bridge.{take-none}
 
 -- as many as there are, of those that are asked for
 pub take-capped : (n : ℕ) (xs : List ℕ) (k : ℕ) → k ≡ min n (length xs) → take k xs ≡ take n xs
