@@ -75,12 +75,7 @@ impl Inventory<'_> {
     pub(super) fn check_mark(&self, node: usize, value: u8) -> Result<(), Refusal>
         ensures { λ r. ⌜ declined-by r ≡ refusal-of (view (now (self .entry))) (marking node value) ⌝ }
     {
-        if node >= self.node_count {
-            return Err(Refusal {
-                reason: Reason::NoNode,
-                place: node,
-            });
-        }
+        self.check_node(node)?;
         if value == 0 || value >= self.sizes.types {
             return Err(Refusal {
                 reason: Reason::BadArgument,
@@ -105,12 +100,7 @@ impl Inventory<'_> {
     pub(super) fn check_path(&self, node: usize, value: u8) -> Result<(), Refusal>
         ensures { λ r. ⌜ declined-by r ≡ refusal-of (view (now (self .entry))) (asking node value 0) ⌝ }
     {
-        if node >= self.node_count {
-            return Err(Refusal {
-                reason: Reason::NoNode,
-                place: node,
-            });
-        }
+        self.check_node(node)?;
         if value == 0 || value >= self.sizes.types {
             return Err(Refusal {
                 reason: Reason::BadArgument,
@@ -128,12 +118,7 @@ impl Inventory<'_> {
     ) -> Result<(), Refusal>
         ensures { λ r. ⌜ declined-by r ≡ judge-refusal (view (now (self .entry))) node scheme policy ⌝ }
     {
-        if node >= self.node_count {
-            return Err(Refusal {
-                reason: Reason::NoNode,
-                place: node,
-            });
-        }
+        self.check_node(node)?;
         self.check_settled()?;
         if !sizes::same(scheme, self.sizes) || !sizes::same(policy, self.sizes) {
             return Err(Refusal {
@@ -147,18 +132,8 @@ impl Inventory<'_> {
     fn check_ends(&self, from: usize, to: usize, step: usize) -> Result<(), Refusal>
         ensures { λ r. ⌜ declined-by r ≡ ends-there (view (now (self .entry))) from to step None ⌝ }
     {
-        if from >= self.node_count {
-            return Err(Refusal {
-                reason: Reason::NoNode,
-                place: from,
-            });
-        }
-        if to >= self.node_count {
-            return Err(Refusal {
-                reason: Reason::NoNode,
-                place: to,
-            });
-        }
+        self.check_node(from)?;
+        self.check_node(to)?;
         if step >= self.step_count {
             return Err(Refusal {
                 reason: Reason::NoStep,
