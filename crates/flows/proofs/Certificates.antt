@@ -5,7 +5,6 @@ use mathlib.Core.Bool.{Bool-set}
 use mathlib.Core.HLevel.{Π_prop, →_prop, ×_prop, ¬_prop}
 use native.Mathlib.Nat.{ℕ_set}
 use native.Mathlib.Bridge.{le_prop}
-use denote.Struct.Props.{four_prop}
 use Rattle.flows.specs.Graph.{Graph}
 use Rattle.flows.specs.Certificate.{arrival, Arrived, Near, Grounded, Linked, Marked, Closed, Certified}
 
@@ -36,7 +35,7 @@ closed_prop : (G : Graph) (W : List ℕ) → IsProp (Closed G W)
 closed_prop G W = Π_prop λ f. Π_prop λ w. →_prop (→_prop (→_prop (→_prop (→_prop (near_prop G W _ _ _)))))
 
 pub certified_prop : (G : Graph) (W : List ℕ) → IsProp (Certified G W)
-certified_prop G W = four_prop (grounded_prop G W) (linked_prop G W) (marked_prop G W) (closed_prop G W)
+certified_prop G W = hlevel (grounded_prop G W, linked_prop G W, marked_prop G W, closed_prop G W)
 
 pub certificate : (G : Graph) (W : List ℕ) (b : Bool) → ∥ (b ≡ true → Certified G W) ∥₁ → b ≡ true → Certified G W
 certificate G W b held e = ∥∥₁_elim held (certified_prop G W) (λ h. h e)

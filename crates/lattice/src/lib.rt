@@ -45,5 +45,5 @@ pub trait Lattice {
 // The meets and joins of every lattice are idempotent, commutative, associative and monotone, and agree with the order.
 // It does nothing: a caller learns the fact.
 pub fn algebra<L: Lattice>(l: &L)
-    ensures { Algebra (order l.now) }
+    ensures { Algebra (L.order l.now) }
 {}

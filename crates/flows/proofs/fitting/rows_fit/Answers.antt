@@ -4,7 +4,7 @@ use Rattle.flows.proofs.Fills.{every_read}
 use Rattle.flows.proofs.fitting.rows_fit.Goals as goal
 
 pub loop-row-preserved : goal.loop-row-preserved
-loop-row-preserved c = below_more _ _ c.loop-row.invariant (c.if-not-row-fits.ensures.0 refl)
+loop-row-preserved c = below_more _ _ c.loop-row.invariant (c.if-not-row_fits.ensures.0 refl)
 
 pub returns : goal.returns
 returns c = (

@@ -8,8 +8,8 @@ use Rattle.flows.proofs.leading.lead_from.Goals.{then-unlisted+then-added-ne0, e
 pub loop-cursor-init : goal.loop-cursor-init
 loop-cursor-init c = trace_begin _ _ _ _ _ _ _ _ _ _ _ _ _ _ c.requires.spread c.requires.charted.chained c.requires.listed
 
-pub offset-bounds-listed-count : goal.offset-bounds-listed-count
-offset-bounds-listed-count c = omega (arith, listed_most _ _ _ _ c.loop-cursor.invariant.list, c.requires.spread.fit.few_nodes)
+pub offset_bounds-listed-count : goal.offset_bounds-listed-count
+offset_bounds-listed-count c = omega (arith, listed_most _ _ _ _ c.loop-cursor.invariant.list, c.requires.spread.fit.few_nodes)
 
 pub bounds-listed-count : goal.bounds-listed-count
 bounds-listed-count c =
@@ -18,20 +18,20 @@ bounds-listed-count c =
       arith,
       c.requires.room.0,
       c.loop-cursor.auto.listed,
-      listed_room _ _ _ _ _ _ _ c.loop-cursor.invariant.list c.lead-on-added.ensures.aimed c.if-unlisted.true c.if-added-ne0.true
+      listed_room _ _ _ _ _ _ _ c.loop-cursor.invariant.list c.lead_on-added.ensures.aimed c.if-unlisted.true c.if-added-ne0.true
           (c.requires.spread.fit.joined _ (omega (arith, lf, c.loop-cursor-test.true))).1,
     )
 
-pub overflow-add-count : goal.overflow-add-count
-overflow-add-count c = omega (arith, listed_most _ _ _ _ c.loop-cursor.invariant.list, c.requires.spread.fit.few_nodes)
+pub overflow_add-count : goal.overflow_add-count
+overflow_add-count c = omega (arith, listed_most _ _ _ _ c.loop-cursor.invariant.list, c.requires.spread.fit.few_nodes)
 
 pub loop-cursor-preserved : goal.loop-cursor-preserved
 loop-cursor-preserved c =
     let lf = (c.loop-cursor.invariant.here c.loop-cursor-test.true).0 in
-    let aimed = c.lead-on-added.ensures.aimed in
+    let aimed = c.lead_on-added.ensures.aimed in
     let list = c.loop-cursor.invariant.list in
     trace_more _ _ _ _ _ _ _ _ _ _ _ _ _ _ _ _ c.args.chart.head.now c.args.chart.link.now _ _ _ _ _ _ c.loop-cursor-test.true c.requires.charted.chained c.loop-cursor.invariant
-    c.lead-on-added.ensures.spread c.lead-on-added.ensures.led c.lead-on-added.ensures.grown
+    c.lead_on-added.ensures.spread c.lead_on-added.ensures.led c.lead_on-added.ensures.grown
     (elim c.if-unlisted.branch [
       | then-unlisted+then-added-ne0 w ↦
           let joined = (c.requires.spread.fit.joined _ (omega (arith, lf, c.loop-cursor-test.true))).1 in
@@ -45,7 +45,7 @@ loop-cursor-preserved c =
           )))
       | else-unlisted w ↦ listed_as _ _ _ _ _ _ w.listed-is w.count-is
           (listed_kept _ _ _ _ _ _ _ list aimed (elim w.else-unlisted.branch [
-            | else-unlisted-via-then-unlisted+else-added-ne0 v ↦ inl (c.lead-on-added.ensures.grown.idle v.if-added-ne0.false)
+            | else-unlisted-via-then-unlisted+else-added-ne0 v ↦ inl (c.lead_on-added.ensures.grown.idle v.if-added-ne0.false)
             | else-unlisted-via-else-unlisted v ↦ inr v.if-unlisted.false
           ]))
     ])

@@ -7,14 +7,14 @@ use Rattle.flows.proofs.rounds.round.Goals as goal
 pub loop-i-init : goal.loop-i-init
 loop-i-init c = round_begin _ _ _ _ _ _ _ _ _ _ _ c.requires.ready.spread c.requires.ready.none
 
-pub offset-bounds-active-i : goal.offset-bounds-active-i
-offset-bounds-active-i c = omega (arith, listed_most _ _ _ _ c.requires.ready.waiting, c.requires.ready.spread.fit.few_nodes, c.loop-i-test.true)
+pub offset_bounds-active-i : goal.offset_bounds-active-i
+offset_bounds-active-i c = omega (arith, listed_most _ _ _ _ c.requires.ready.waiting, c.requires.ready.spread.fit.few_nodes, c.loop-i-test.true)
 
 pub bounds-active-i : goal.bounds-active-i
 bounds-active-i c = omega (arith, listed_most _ _ _ _ c.requires.ready.waiting, c.requires.ready.active_room, c.loop-i-test.true)
 
-pub lead-from-count-requires : goal.lead-from-count-requires
-lead-from-count-requires c = record {
+pub lead_from-count-requires : goal.lead_from-count-requires
+lead_from-count-requires c = record {
   spread = c.loop-i.invariant.spread;
   charted = c.requires.ready.charted;
   room = (omega (arith, c.requires.ready.listed_room, c.loop-i.auto.listed), c.requires.ready.waiting.within c.loop-i.i c.loop-i-test.true);
@@ -23,8 +23,8 @@ lead-from-count-requires c = record {
 }
 
 pub loop-i-preserved : goal.loop-i-preserved
-loop-i-preserved c = round_more _ _ _ _ _ _ _ _ _ _ _ _ _ _ _ _ _ _ _ _ c.loop-i.invariant c.lead-from-count.ensures.spread c.lead-from-count.ensures.led
-    c.lead-from-count.ensures.grown c.lead-from-count.ensures.listed
+loop-i-preserved c = round_more _ _ _ _ _ _ _ _ _ _ _ _ _ _ _ _ _ _ _ _ c.loop-i.invariant c.lead_from-count.ensures.spread c.lead_from-count.ensures.led
+    c.lead_from-count.ensures.grown c.lead_from-count.ensures.listed
 
 pub returns : goal.returns
 returns c = record {

@@ -9,7 +9,7 @@ loop-hop-init c = walk_begin _ _ _ _ _ _
 pub loop-hop-preserved : goal.loop-hop-preserved
 loop-hop-preserved c =
     walk_more _ _ _ _ _ _ _ _ _ _ _ _ c.loop-hop-test.true c.loop-hop.auto.hop (omega (arith, c.loop-hop.auto.piece, c.if-count-piece.false))
-    c.arrival-of-arrival.ensures c.start-of-at.ensures c.loop-hop.invariant
+    c.arrival_of-arrival.ensures c.start_of-at.ensures c.loop-hop.invariant
 
 pub returns : goal.returns
 returns c = record {

@@ -5,4 +5,4 @@ use Rattle.lexer.proofs.Fronts.{whole_front}
 use Rattle.lexer.proofs.classes.only.Goals as goal
 
 pub returns : goal.returns
-returns c = whole_front (belongs c.args.class) c.args.word.now c.run.result (sym c.if-is-empty.ensures) c.run.ensures.count
+returns c = whole_front (belongs c.args.class) c.args.word.now c.run.result (sym c.if-is_empty.ensures) c.run.ensures.count

@@ -6,10 +6,10 @@ use Rattle.lexer.specs.Lines.{lines_of}
 use Rattle.lexer.proofs.LineCuts.{line_cut, line_whole}
 use Rattle.lexer.proofs.lines.first_line.Goals as goal
 
-pub returns-then-is-empty : goal.returns-then-is-empty
+pub returns-then-is_empty : goal.returns-then-is_empty
 unfolding lines_of
-returns-then-is-empty c =
-    let none : c.args.text.now ≡ [] = nil_from_length _ (eqb-true _ 0 (sym c.if-is-empty.ensures)) in
+returns-then-is_empty c =
+    let none : c.args.text.now ≡ [] = nil_from_length _ (eqb-true _ 0 (sym c.if-is_empty.ensures)) in
     record { line = rw none; shorter = none }
 
 pub returns-then-end-text : goal.returns-then-end-text
@@ -20,7 +20,7 @@ returns-then-end-text c = record {
 
 pub returns-else-end-text : goal.returns-else-end-text
 returns-else-end-text c =
-    let some : 0 < length c.args.text.now = omega (arith, eqb-false _ 0 (sym c.if-is-empty.ensures)) in
+    let some : 0 < length c.args.text.now = omega (arith, eqb-false _ 0 (sym c.if-is_empty.ensures)) in
     record {
       line = line_whole c.args.text.now c.run-end.result c.run-end.ensures.count some c.if-end-text.false;
       shorter = rw (take_rest, length-drop) (omega arith);
