@@ -8,7 +8,7 @@ use lattice::{Lattice, Table};
 
 // The row of value i: the set of the values that it is at or below.
 fn row_of<L: Lattice>(lattice: &L, i: u8) -> u64
-    ensures { result ≡ row (order lattice.now) i }
+    ensures { result ≡ row (L.order lattice.now) i }
 {
     let mut row = 0;
     for j in 0..lattice.size() {
@@ -22,9 +22,9 @@ fn row_of<L: Lattice>(lattice: &L, i: u8) -> u64
 /// Writes the rows of the lattice into the first entries, one for each value, and leaves the rest.
 /// Writes nothing where there are fewer entries than values.
 pub fn write_rows<L: Lattice>(lattice: &L, rows: &mut [u64]) -> bool
-    ensures value { result ≡ nat_le (order lattice.now).size (length rows.old) }
-    ensures written { rows.new ≡ with_rows (order lattice.now) rows.old }
-    ensures same { result ≡ true → table (take (order lattice.now).size rows.new) ≡ order lattice.now }
+    ensures value { result ≡ nat_le (L.order lattice.now).size (length rows.old) }
+    ensures written { rows.new ≡ with_rows (L.order lattice.now) rows.old }
+    ensures same { result ≡ true → table (take (L.order lattice.now).size rows.new) ≡ L.order lattice.now }
 {
     let size = lattice.size();
     if rows.len() < size as usize {
@@ -38,7 +38,7 @@ pub fn write_rows<L: Lattice>(lattice: &L, rows: &mut [u64]) -> bool
 
 /// The table whose order is that of the lattice.
 pub fn tabulated<L: Lattice>(lattice: &L) -> Table
-    ensures { table_order result ≡ order lattice.now }
+    ensures { table_order result ≡ L.order lattice.now }
 {
     let mut rows = [0u64; 64];
     let _ = write_rows(lattice, &mut rows);

@@ -1,4 +1,6 @@
 //! The spreading of values along the flows between nodes, and the paths by which values come to nodes.
+#![tactic(auto)]
+
 mod chaining;
 mod charts;
 mod fitting;

@@ -1,7 +1,7 @@
 -- A value put into a set, and taken out of it. Assumes nothing.
-use Rattle.std.proofs.Common.{◌≡◌, ℕ, zero, suc, ◌+◌, ◌-◌, ◌*◌, ◌/◌, ◌%◌, ◌^◌, ◌<◌, ◌≤◌, Bool, true, false, cond, not, ◌&&◌, ◌||◌, eqb, Some, None, Decides, Option, sym, refl, ap, ◌∙◌, subst, inl, inr, pow-suc, add-one, arith, shr-shr}
-use Rattle.std.proofs.lemmas.Bool.{eqb-true, eqb-false, eq-eqb, ne_eqb, cases_Bool, cases_eq, and_parts, and_from, or_cases, or_from, or_left, or_right, both_ways, cond-true, cond-false}
-use Rattle.lattice.specs.Sets.{has, with, without, every, some_below, least, all_of, some_of, gather, image}
+use Rattle.std.proofs.Common.{◌≡◌, ℕ, zero, suc, ◌+◌, ◌-◌, ◌*◌, ◌/◌, ◌%◌, ◌^◌, ◌≤◌, Bool, true, false, cond, not, ◌&&◌, ◌||◌, eqb, sym, refl, ap, ◌∙◌, subst, inl, inr, pow-suc, arith, shr-shr}
+use Rattle.std.proofs.lemmas.Bool.{eqb-true, eqb-false, eq-eqb, ne_eqb, cases_eq, or_left, both_ways}
+use Rattle.lattice.specs.Sets.{has, with, without}
 
 -- ---- tests over the numbers below a bound
 

@@ -1,7 +1,7 @@
 -- What the laws of an order give of meets and joins. Assumes nothing.
 use Rattle.std.specs.Prelude.{◌≡◌, ℕ, ◌<◌, Bool, not, ◌&&◌, ◌||◌, T, Some, None, Option, refl}
 use Rattle.std.proofs.Common.{sym, ◌∙◌}
-use Rattle.lattice.specs.Sets.{every, least}
+use Rattle.lattice.specs.Sets.{every}
 use Rattle.lattice.specs.Order.{Order, Lattice, is_meet, is_join, meet, join}
 use Rattle.lattice.specs.Bounds.{Ordered, Meets, Joins}
 use Rattle.lattice.specs.Tests.{T_and, and_T, T_imp, imp_T}

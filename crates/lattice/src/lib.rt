@@ -1,4 +1,6 @@
 //! Finite lattices behind one trait: values are the numbers below a size of 2 to 64, 0 is the bottom and the last value the top.
+#![tactic(auto)]
+
 ghost use Rattle.std.specs.Prelude.{◌≡◌};
 ghost use Rattle.lattice.specs.Order.{Order, Lattice as Laws, meet, join};
 ghost use Rattle.lattice.specs.Algebra.{Algebra};

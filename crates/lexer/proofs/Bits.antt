@@ -1,5 +1,5 @@
 -- One value put into a set.
-use Rattle.std.proofs.Common.{◌≡◌, ℕ, zero, suc, ◌+◌, ◌-◌, ◌*◌, ◌/◌, ◌%◌, ◌^◌, ◌<◌, ◌≤◌, true, eqb, ◌≢◌, ◌⊎◌, sym, refl, ap, ◌∙◌, subst, inl, inr, pow-suc, arith, pow_pos, pow-add}
+use Rattle.std.proofs.Common.{◌≡◌, ℕ, zero, suc, ◌+◌, ◌-◌, ◌*◌, ◌/◌, ◌%◌, ◌^◌, ◌<◌, true, eqb, ◌≢◌, ◌⊎◌, sym, refl, ap, ◌∙◌, subst, inl, inr, pow-suc, arith, pow_pos, pow-add}
 use native.Mathlib.Nat.{div-eq_of_lt, div_self, zero-div}
 use native.Mathlib.Decide.{dec_lt, ℕ_discrete}
 use lib.Pow.{pow-lt, shl-shr}

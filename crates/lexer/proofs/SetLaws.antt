@@ -1,11 +1,11 @@
 -- A set has the numbers of its pieces and no others.
-use Rattle.std.proofs.Common.{◌≡◌, ℕ, true, false, eqb, ◌⊎◌, List, [], ◌∷◌, length, IfOk, Some, None, Ok, Err, Decides, Option, Result, sym, refl, ap, ◌∙◌, subst, inl, inr, arith}
+use Rattle.std.proofs.Common.{◌≡◌, ℕ, true, false, eqb, ◌⊎◌, List, [], ◌∷◌, length, IfOk, Some, None, Ok, Err, Decides, Option, Result, sym, refl, ◌∙◌, subst, inl, inr, arith}
 use Rattle.std.proofs.lemmas.Bool.{cases_Bool, cases_lt, and_parts, eqb-true, both_ways, le-leb, lt-leb, cond-true, cond-false}
 use Rattle.lexer.specs.Classes.{every}
 use Rattle.lexer.specs.Numbers.{number_of, up_to}
 use Rattle.lexer.specs.Sets.{has_value, with_value, pieces, gather, is_dash, set_of, Among, Members}
 use Rattle.lexer.specs.declared.numbers.NumberFault.{NumberFault}
-use Rattle.lexer.specs.declared.numbers.NumberFault.TheVariants.{NotANumber, TooLarge}
+use Rattle.lexer.specs.declared.numbers.NumberFault.TheVariants.{TooLarge}
 use Rattle.lexer.proofs.Bits.{put_here, put_kept, put_cases, none_in}
 use Rattle.lexer.proofs.Gathers.{gather_ok, gather_err, gather_none}
 

@@ -1,10 +1,10 @@
 -- The value of digits, read from the left up to a bound.
-use Rattle.std.proofs.Common.{◌≡◌, ℕ, ◌+◌, ◌-◌, ◌*◌, ◌/◌, ◌<◌, ◌≤◌, true, false, cond, eqb, leb, ◌⊎◌, List, [], ◌∷◌, length, get_or, take, drop, Some, None, Ok, Err, Option, Result, sym, refl, ap, ◌∙◌, inl, inr, div-lt_iff_lt-mul, mul-le-mul_left, le-div_iff_mul-le, mul-one, arith}
+use Rattle.std.proofs.Common.{◌≡◌, ℕ, ◌+◌, ◌-◌, ◌*◌, ◌/◌, ◌<◌, ◌≤◌, true, false, eqb, List, [], ◌∷◌, length, get_or, take, drop, Some, None, Ok, Err, Option, Result, sym, ap, ◌∙◌, inl, inr, div-lt_iff_lt-mul, mul-le-mul_left, le-div_iff_mul-le, mul-one, arith}
 use Rattle.std.specs.Str.Parse.{digits_value, digits_value_after}
 use Rattle.std.specs.Char.{digit_value}
 use Rattle.lexer.specs.Numbers.{at_most, in_base, is_marked, number_of, up_to}
 use Rattle.lexer.specs.declared.numbers.NumberFault.{NumberFault}
-use Rattle.lexer.specs.declared.numbers.NumberFault.TheVariants.{NotANumber, TooLarge}
+use Rattle.lexer.specs.declared.numbers.NumberFault.TheVariants.{TooLarge}
 use Rattle.std.proofs.lemmas.List.{at_drop_more, at_drop_all, get_or_past, take_rest}
 use Rattle.std.proofs.lemmas.Bool.{le-leb, lt-leb, cases_lt, and_right, cond-true, cond-false}
 

@@ -1,6 +1,7 @@
 //! Reading the text of a script: its lines, the words of a line, and the numbers, names and sets that words write; and writing numbers and sets.
 //!
 //! All text is bytes, of any kind. Every function takes any text.
+#![tactic(auto)]
 
 mod classes;
 pub mod lines;

@@ -1,7 +1,7 @@
 -- What the laws of a lattice give: meets and joins are bounds, and `overlap` is the least upper bound of the meets. Assumes nothing.
 use Rattle.std.proofs.Common.{◌≡◌, ℕ, suc, ◌<◌, Bool, true, false, not, ◌&&◌, ◌||◌, T, ◌⊎◌, Some, None, Option, sym, refl, ap, subst, inl, inr, arith}
 use Rattle.std.proofs.lemmas.Bool.{cases_lt, cases_eq, and_parts, both_ways}
-use Rattle.lattice.specs.Sets.{has, every, least}
+use Rattle.lattice.specs.Sets.{has, every}
 use Rattle.lattice.specs.Order.{Order, Lattice, is_meet, is_join, meet, join, top}
 use Rattle.policy.specs.Clauses.{value_or_bottom, overlap}
 use Rattle.policy.proofs.Sets.{every_below, least_passes, gather_keeps}

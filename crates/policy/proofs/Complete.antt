@@ -1,5 +1,5 @@
 -- The words of a policy are read without a fault, and make that policy's clause.
-use Rattle.std.proofs.Common.{◌≡◌, ℕ, zero, suc, ◌+◌, ◌-◌, ◌*◌, ◌/◌, ◌%◌, ◌^◌, ◌<◌, ◌≤◌, max, Bool, true, false, cond, not, ◌&&◌, ◌||◌, eqb, ltb, leb, ◌⊎◌, List, [], ◌∷◌, ◌++◌, length, Some, None, Ok, Err, Option, Result, sym, refl, ap, ◌∙◌, subst, inl, inr, append_assoc, append-nil, mod-eq_of_lt, arith, lit<}
+use Rattle.std.proofs.Common.{◌≡◌, ℕ, zero, suc, ◌+◌, ◌-◌, ◌*◌, ◌/◌, ◌%◌, ◌^◌, ◌<◌, ◌≤◌, Bool, true, false, cond, ◌||◌, eqb, leb, ◌⊎◌, List, [], ◌∷◌, ◌++◌, length, Some, None, Ok, Err, sym, refl, ap, ◌∙◌, subst, inl, inr, append_assoc, append-nil, mod-eq_of_lt, arith, lit<}
 use native.Mathlib.Nat.{pow-le-pow_right}
 use lib.Bits.{bit_or}
 use Rattle.std.proofs.lemmas.Bool.{eqb-true, eq-eqb, ne_eqb, ltb-true, lt-leb, and_parts, or_from, cases_lt}
@@ -9,15 +9,13 @@ use Rattle.policy.specs.declared.clause.Kind.{Kind}
 use Rattle.policy.specs.declared.clause.Kind.TheVariants.{Allow, Deny}
 use Rattle.policy.specs.declared.draft.Phase.{Phase}
 use Rattle.policy.specs.declared.draft.Phase.TheVariants.{Listing, Excepting, Excepted}
-use Rattle.refusals.specs.declared.refusal.Reason.{Reason}
 use Rattle.refusals.specs.declared.refusal.Reason.TheVariants.{MisplacedWord, BadValue, NotRising, SameKind, TooNested}
-use Rattle.refusals.specs.declared.refusal.Refusal.{Refusal}
 use Rattle.policy.specs.declared.word.Word.{Word}
 use Rattle.policy.specs.declared.word.Word.TheVariants.{Head, Value, Except, End, NoWord}
 use Rattle.lattice.specs.Sets.{has}
 use Rattle.policy.specs.Clauses.{Clause, Clauses, allow, deny, none, more, clause_count, clauses_count}
 use Rattle.policy.specs.Decode.{word_of}
-use Rattle.policy.specs.Words.{Frame, Reading, fault, fault_in, head_fault, value_fault, same_kind, size_of, advanced, ended, opened, values_below, value_word, list_words, in_range, list_in_range, spelled, spelled_exceptions, spelled_rest, ALLOW, DENY, EXCEPT, END, well_formed, all_deny, all_allow, depth, depths, Small}
+use Rattle.policy.specs.Words.{Frame, Reading, fault, fault_in, head_fault, value_fault, same_kind, size_of, advanced, ended, opened, values_below, value_word, list_words, in_range, list_in_range, spelled, spelled_exceptions, spelled_rest, EXCEPT, END, well_formed, depth, depths, Small}
 use Rattle.policy.specs.Walk.{walk, listed, empty}
 use Rattle.policy.specs.Records.{clause_of}
 use Rattle.policy.proofs.Values.{has_high, bit_on, low_on, low_off}

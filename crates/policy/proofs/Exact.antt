@@ -1,12 +1,11 @@
 -- The laws above the reader.
-use Rattle.std.proofs.Common.{◌≡◌, ℕ, zero, suc, ◌+◌, ◌<◌, ◌≤◌, Bool, true, false, cond, ◌&&◌, ◌||◌, T, eqb, ltb, ◌↔◌, List, [], ◌∷◌, ◌++◌, length, Some, None, Ok, Err, Option, Result, sym, refl, ap, ◌∙◌, subst, arith}
+use Rattle.std.proofs.Common.{◌≡◌, ℕ, ◌≤◌, Bool, true, false, cond, ◌||◌, T, eqb, ltb, List, [], ◌∷◌, length, Some, None, Ok, Err, Option, Result, sym, refl, ap, ◌∙◌, arith}
 use Rattle.std.proofs.lemmas.Bool.{ltb-false, le-ltb, ne_eqb, or_parts, or_from}
 use Rattle.lattice.specs.declared.sizes.Sizes.{Sizes}
-use Rattle.policy.specs.declared.clause.ClauseRecord.{ClauseRecord}
 use Rattle.refusals.specs.declared.refusal.Reason.TheVariants.{WordCount}
 use Rattle.refusals.specs.declared.refusal.Refusal.{Refusal}
-use Rattle.policy.specs.Clauses.{Clause, Clauses, allow, deny, none, more, clause_count}
-use Rattle.policy.specs.Words.{Small, Written, spelled, well_formed, depth, fault_from, words_fault, nothing_read, AcceptedExactly, SpelledOnce}
+use Rattle.policy.specs.Clauses.{Clause, Clauses, allow, deny, none, more}
+use Rattle.policy.specs.Words.{Small, Written, spelled, fault_from, words_fault, nothing_read, AcceptedExactly, SpelledOnce}
 use Rattle.policy.specs.Walk.{walk, empty}
 use Rattle.policy.proofs.Grown.{Node, grown, Agrees, agrees}
 use Rattle.policy.proofs.Sound.{Spelt, sound}

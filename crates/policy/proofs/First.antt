@@ -1,10 +1,9 @@
 -- The first clause of a policy's words, and what comes after it.
-use Rattle.std.proofs.Common.{◌≡◌, ℕ, zero, suc, ◌+◌, ◌-◌, ◌<◌, ◌≤◌, Bool, true, false, cond, ◌||◌, eqb, ltb, List, [], ◌∷◌, length, get_or, take, drop, set, Some, None, Ok, Err, Option, Result, sym, refl, ap, ◌∙◌, subst, arith, length-drop}
+use Rattle.std.proofs.Common.{◌≡◌, ℕ, ◌+◌, ◌-◌, ◌<◌, ◌≤◌, cond, List, [], ◌∷◌, length, get_or, drop, Some, None, Ok, Err, sym, refl, ap, ◌∙◌, subst, arith, length-drop}
 use Rattle.std.proofs.lemmas.List.{drop-drop, drop_all, drop_more}
 use Rattle.std.proofs.lemmas.Bool.{eq-eqb, ne_eqb, or_left, or_right, lt-ltb}
 use Rattle.lattice.specs.declared.sizes.Sizes.{Sizes}
 use Rattle.policy.specs.declared.clause.Kind.{Kind}
-use Rattle.policy.specs.declared.clause.Kind.TheVariants.{Allow, Deny}
 use Rattle.policy.specs.declared.draft.Phase.TheVariants.{Listing}
 use Rattle.policy.specs.declared.draft.Open.{Open}
 use Rattle.policy.specs.declared.draft.Draft.{Draft}
@@ -14,17 +13,16 @@ use Rattle.refusals.specs.declared.refusal.Reason.TheVariants.{MisplacedWord, Wo
 use Rattle.refusals.specs.declared.refusal.Refusal.{Refusal}
 use Rattle.policy.specs.declared.word.Word.{Word}
 use Rattle.policy.specs.declared.word.Word.TheVariants.{Head, Value, Except, End, NoWord}
-use Rattle.policy.specs.Clauses.{Clause, Clauses, none, more, clause_count}
+use Rattle.policy.specs.Clauses.{Clause, none, more, clause_count}
 use Rattle.policy.specs.Decode.{word_of}
 use Rattle.policy.specs.Words.{Frame, Reading, fault, fault_outside, fault_from, words_fault, nothing_read, Small, Written, spelled, meaning, meanings}
 use Rattle.policy.specs.Walk.{walk, Slot, Records, recorded, fresh, empty}
-use Rattle.policy.specs.Laid.{Laid, LaidClause}
+use Rattle.policy.specs.Laid.{LaidClause}
 use Rattle.policy.specs.Sized.{Sized}
-use Rattle.policy.specs.Reads.{slot, goes, stored, numbered, frame_of, Closes, Stops, Reads, Begins, Begun, Firsts, stray_reason}
-use Rattle.policy.specs.Stands.{Stands, Drafted}
+use Rattle.policy.specs.Reads.{slot, goes, stored, numbered, Closes, Stops, Begins, Firsts, stray_reason}
+use Rattle.policy.specs.Stands.{Drafted}
 use Rattle.policy.proofs.Steps.{tail, tail_is}
-use Rattle.policy.proofs.Grown.{Node, grown, agrees, walk_on, walk_stop}
-use Rattle.policy.proofs.Sound.{Spelt}
+use Rattle.policy.proofs.Grown.{Node, agrees, walk_on, walk_stop}
 use Rattle.policy.proofs.Recorded.{Sim, simulates}
 use Rattle.policy.proofs.Complete.{node}
 use Rattle.policy.proofs.Exact.{clean, stopped, spelt, within, written_of}

@@ -1,5 +1,5 @@
 -- The records that are made of words stand for the clause that the words spell.
-use Rattle.std.proofs.Common.{◌≡◌, ℕ, zero, suc, ◌+◌, ◌-◌, ◌*◌, ◌<◌, ◌≤◌, Bool, true, false, cond, ◌&&◌, ◌||◌, eqb, ◌≢◌, List, [], ◌∷◌, ◌++◌, length, get_or, set, Some, None, Ok, Err, Option, Result, sym, refl, ap, ◌∙◌, subst, arith, length-set, get_or-set_other, get_or-set_same}
+use Rattle.std.proofs.Common.{◌≡◌, ℕ, suc, ◌+◌, ◌<◌, ◌≤◌, Bool, true, false, cond, eqb, List, [], ◌∷◌, length, set, Some, None, Ok, Err, Option, Result, sym, refl, ap, ◌∙◌, subst, arith, length-set, get_or-set_other, get_or-set_same}
 use Rattle.std.proofs.lemmas.Bool.{eqb-true}
 use Rattle.policy.specs.declared.label.Label.{Label}
 use Rattle.lattice.specs.declared.sizes.Sizes.{Sizes}
@@ -16,11 +16,11 @@ use Rattle.policy.specs.declared.word.Word.TheVariants.{Head, Value, Except, End
 use Rattle.policy.specs.Clauses.{Clause, Clauses, allow, deny, none, more, clause_count, clauses_count}
 use Rattle.policy.specs.Decode.{word_of}
 use Rattle.policy.specs.Labels.{filled}
-use Rattle.policy.specs.Words.{Frame, Reading, fault, fault_in, fault_outside, head_fault, advanced, ended, opened, meaning, meanings}
-use Rattle.policy.specs.Walk.{walk, listed, empty, fresh, with_value, closed, Slot, Records, recorded, top_with, top_ended, rest_of}
+use Rattle.policy.specs.Words.{Frame, Reading, fault, fault_in, advanced, ended, meaning, meanings}
+use Rattle.policy.specs.Walk.{walk, listed, fresh, closed, Slot, Records, recorded, top_ended}
 use Rattle.policy.specs.Records.{clause_of, record_at}
 use Rattle.policy.specs.Laid.{LaidClause, Laid}
-use Rattle.policy.proofs.Trees.{laid_same, laid_clause_same}
+use Rattle.policy.proofs.Trees.{laid_same}
 use Rattle.policy.proofs.Grown.{Node, snoc, shut, grown, walk_on, walk_stop}
 use Rattle.policy.proofs.Sound.{sound_head}
 

@@ -3,7 +3,7 @@ use Rattle.std.proofs.Common.{◌≡◌, ℕ, zero, suc, ◌+◌, ◌<◌, ◌�
 use mathlib.Core.Bool.{beq}
 use Rattle.std.proofs.lemmas.Bool.{both_ways, cases_eq, cond-true, cond-false, eq-eqb, ne_eqb, lt-ltb, le-ltb}
 use Rattle.lattice.specs.Schemes.{Scheme}
-use Rattle.policy.specs.Clauses.{Label, Clause, Clauses, allow, deny, none, more, allows, all_allow, some_allows, clause_count, clauses_count, decider, first_denying, first_allowing}
+use Rattle.policy.specs.Clauses.{Label, Clause, Clauses, none, more, allows, all_allow, some_allows, clause_count, clauses_count, decider, first_denying, first_allowing}
 use Rattle.policy.specs.declared.clause.Kind.{Kind}
 use Rattle.policy.specs.declared.clause.Kind.TheVariants.{Allow, Deny}
 use Rattle.policy.specs.declared.clause.ClauseRecord.{ClauseRecord}

@@ -1,5 +1,5 @@
 -- Words that are read without a fault spell a policy: the invariant of the reading.
-use Rattle.std.proofs.Common.{◌≡◌, ℕ, zero, suc, ◌+◌, ◌-◌, ◌*◌, ◌<◌, ◌≤◌, max, Bool, true, false, cond, ◌&&◌, ◌||◌, T, eqb, ltb, leb, List, [], ◌∷◌, ◌++◌, length, Some, None, Ok, Err, Option, Result, sym, refl, ap, ◌∙◌, subst, append_assoc, append-nil, arith}
+use Rattle.std.proofs.Common.{◌≡◌, ℕ, suc, ◌+◌, ◌*◌, ◌<◌, ◌≤◌, max, Bool, true, false, cond, ◌||◌, eqb, leb, List, [], ◌∷◌, ◌++◌, length, Some, None, Ok, Err, Option, Result, sym, refl, ap, ◌∙◌, subst, append_assoc, append-nil, arith}
 use Rattle.std.proofs.lemmas.Bool.{eqb-true, eq-eqb, ne_eqb, lt-ltb, leb-false, and_parts, and_from, or_parts}
 use Rattle.std.proofs.lemmas.Nat.{pow_pos}
 use Rattle.policy.specs.declared.label.Label.{Label}
@@ -15,10 +15,10 @@ use Rattle.policy.specs.declared.word.Word.{Word}
 use Rattle.policy.specs.declared.word.Word.TheVariants.{Head, Value, Except, End, NoWord}
 use Rattle.policy.specs.Clauses.{Clause, Clauses, allow, deny, none, more, clause_count, clauses_count}
 use Rattle.policy.specs.Decode.{word_of}
-use Rattle.policy.specs.Words.{Frame, Reading, fault, fault_in, fault_outside, head_fault, value_fault, same_kind, advanced, ended, opened, in_phase, list_words, in_range, list_in_range, spelled, spelled_exceptions, spelled_rest, ALLOW, DENY, EXCEPT, END, value_word, well_formed, all_deny, all_allow, depth, depths, Small}
+use Rattle.policy.specs.Words.{Frame, fault, fault_in, fault_outside, head_fault, value_fault, same_kind, advanced, ended, opened, list_words, in_range, list_in_range, spelled, spelled_exceptions, spelled_rest, ALLOW, DENY, EXCEPT, END, value_word, well_formed, all_deny, all_allow, depth, depths, Small}
 use Rattle.policy.specs.Walk.{walk, listed, empty}
 use Rattle.policy.specs.Records.{clause_of}
-use Rattle.policy.proofs.Labels.{Encodes, encodes, UnderAll, Pushed, pushed, sound_value, list_empty}
+use Rattle.policy.proofs.Labels.{Encodes, encodes, UnderAll, pushed, sound_value, list_empty}
 use Rattle.policy.proofs.Trees.{count_pos}
 use Rattle.policy.proofs.Grown.{Node, snoc, shut, grown, walk_on, walk_stop}
 

@@ -1,5 +1,5 @@
 -- One word of a reader, as one step of the walk.
-use Rattle.std.proofs.Common.{◌≡◌, ℕ, suc, ◌+◌, ◌-◌, ◌*◌, ◌<◌, ◌≤◌, List, [], ◌∷◌, length, get_or, take, drop, set, Some, None, Ok, Err, Option, Result, sym, refl, ap, ◌∙◌, subst, arith, length-drop}
+use Rattle.std.proofs.Common.{◌≡◌, ℕ, suc, ◌+◌, ◌-◌, ◌*◌, ◌<◌, ◌≤◌, List, [], ◌∷◌, length, get_or, take, drop, Some, None, Ok, Err, Option, Result, sym, refl, ap, ◌∙◌, subst, arith, length-drop}
 use Rattle.std.proofs.lemmas.List.{drop-drop, take_rest}
 use Rattle.policy.specs.declared.clause.Kind.{Kind}
 use Rattle.policy.specs.declared.clause.Kind.TheVariants.{Allow, Deny}
@@ -12,7 +12,7 @@ use Rattle.refusals.specs.declared.refusal.Reason.{Reason}
 use Rattle.refusals.specs.declared.refusal.Reason.TheVariants.{MisplacedWord}
 use Rattle.refusals.specs.declared.refusal.Refusal.{Refusal}
 use Rattle.policy.specs.declared.word.Word.{Word}
-use Rattle.policy.specs.declared.word.Word.TheVariants.{Head, Value, Except, End, NoWord}
+use Rattle.policy.specs.declared.word.Word.TheVariants.{Head, Value, Except, End}
 use Rattle.policy.specs.Decode.{word_of}
 use Rattle.policy.specs.Words.{Frame, Reading, fault_in, advanced, ended}
 use Rattle.policy.specs.Walk.{walk, Slot, Records, recorded, fresh, with_value, closed}

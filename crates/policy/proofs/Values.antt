@@ -1,10 +1,10 @@
 -- The words of a set of values.
-use Rattle.std.proofs.Common.{◌≡◌, ℕ, zero, suc, ◌+◌, ◌-◌, ◌*◌, ◌/◌, ◌%◌, ◌^◌, ◌<◌, ◌≤◌, Bool, true, false, cond, eqb, ltb, leb, List, [], ◌∷◌, ◌++◌, sym, refl, ap, ◌∙◌, subst, append_assoc, append-nil, mod-eq_of_lt, one-mul, zero-mul, arith, lit<, pow-add}
+use Rattle.std.proofs.Common.{◌≡◌, ℕ, zero, suc, ◌+◌, ◌-◌, ◌*◌, ◌/◌, ◌%◌, ◌^◌, ◌<◌, ◌≤◌, true, false, cond, eqb, [], ◌∷◌, ◌++◌, sym, refl, ap, ◌∙◌, append-nil, mod-eq_of_lt, one-mul, zero-mul, arith, lit<, pow-add}
 use native.Mathlib.Nat.{div-eq_of_lt, pow-le-pow_right}
 use lib.Bits.{bit_or, or_shifted_r}
-use lib.Pow.{field, mod-mod-pow, mod-pow-add, high, low, pow-lt}
-use Rattle.std.proofs.lemmas.Bool.{eqb-true, eqb-false, eq-eqb, ne_eqb}
-use Rattle.std.proofs.lemmas.Nat.{pow_pos, mod_below, pow_below}
+use lib.Pow.{field, mod-mod-pow, mod-pow-add, high, low}
+use Rattle.std.proofs.lemmas.Bool.{eqb-true, eqb-false}
+use Rattle.std.proofs.lemmas.Nat.{pow_pos, mod_below}
 use Rattle.lattice.specs.Sets.{has}
 use Rattle.policy.specs.Words.{values_below, value_word}
 

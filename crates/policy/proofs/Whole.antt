@@ -1,5 +1,5 @@
 -- The records that words leave are all of one clause: they nest, and their tree is that clause.
-use Rattle.std.proofs.Common.{◌≡◌, ℕ, ◌+◌, ◌<◌, ◌≤◌, List, length, take, sym, ap, ◌∙◌, arith, length-take-le, get_or-take}
+use Rattle.std.proofs.Common.{◌≡◌, ℕ, ◌≤◌, List, length, take, sym, ◌∙◌, arith, length-take-le, get_or-take}
 use Rattle.lattice.specs.Schemes.{Scheme, Lattices, scheme_sizes}
 use Rattle.lattice.specs.declared.sizes.Sizes.{Sizes}
 use Rattle.policy.specs.declared.clause.ClauseRecord.{ClauseRecord}

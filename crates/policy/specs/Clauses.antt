@@ -2,7 +2,7 @@
 use Rattle.std.specs.Prelude.{ℕ, ◌+◌, Bool, true, false, cond, not, ◌&&◌, ◌||◌, Some, None, Option}
 -- a label is a set of values for each attribute
 pub use Rattle.policy.specs.declared.label.Label.{Label}
-use Rattle.lattice.specs.Sets.{has, with, without, all_of, some_of, gather, image}
+use Rattle.lattice.specs.Sets.{has, without, all_of, some_of, gather, image}
 use Rattle.lattice.specs.Order.{Order, meet, join}
 use Rattle.lattice.specs.Schemes.{Scheme}
 

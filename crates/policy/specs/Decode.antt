@@ -1,6 +1,5 @@
 -- What one word says. Assumes nothing.
 use Rattle.std.specs.Prelude.{ℕ, ◌/◌, ◌%◌, ◌^◌, cond, ◌==◌}
-use Rattle.policy.specs.declared.clause.Kind.{Kind}
 use Rattle.policy.specs.declared.clause.Kind.TheVariants.{Allow, Deny}
 use Rattle.policy.specs.declared.word.Word.{Word}
 use Rattle.policy.specs.declared.word.Word.TheVariants.{Head, Value, Except, End, NoWord}

@@ -9,7 +9,7 @@ use Rattle.refusals.specs.declared.refusal.Reason.TheVariants.{MisplacedWord, Ba
 use Rattle.refusals.specs.declared.refusal.Refusal.{Refusal}
 use Rattle.policy.specs.declared.word.Word.{Word}
 use Rattle.policy.specs.declared.word.Word.TheVariants.{Head, Value, Except, End, NoWord}
-use Rattle.policy.specs.Words.{Frame, Reading, ended}
+use Rattle.policy.specs.Words.{Frame, ended}
 use Rattle.policy.specs.Walk.{walk, Slot, Records, recorded}
 use Rattle.policy.specs.Sized.{Sized}
 

@@ -1,18 +1,16 @@
 -- Reading word by word with something that is made on the way. Assumes nothing.
-use Rattle.std.specs.Prelude.{◌≡◌, ℕ, ◌+◌, ◌-◌, ◌*◌, ◌^◌, ◌<◌, ◌≤◌, Bool, true, false, cond, List, [], ◌∷◌, ◌++◌, length, Some, None, Ok, Err, Option, Result, ◌==◌, bit_or, slice_set}
+use Rattle.std.specs.Prelude.{ℕ, ◌+◌, ◌^◌, cond, List, [], ◌∷◌, Some, None, Ok, Err, Result, ◌==◌, bit_or, slice_set}
 use Rattle.policy.specs.declared.label.Label.{Label}
 use Rattle.lattice.specs.declared.sizes.Sizes.{Sizes}
 use Rattle.policy.specs.declared.clause.Kind.{Kind}
-use Rattle.policy.specs.declared.clause.Kind.TheVariants.{Allow, Deny}
 use Rattle.policy.specs.declared.clause.ClauseRecord.{ClauseRecord}
-use Rattle.refusals.specs.declared.refusal.Reason.{Reason}
 use Rattle.refusals.specs.declared.refusal.Reason.TheVariants.{MisplacedWord}
 use Rattle.refusals.specs.declared.refusal.Refusal.{Refusal}
 use Rattle.policy.specs.declared.word.Word.{Word}
 use Rattle.policy.specs.declared.word.Word.TheVariants.{Head, Value, Except, End, NoWord}
 use Rattle.policy.specs.Decode.{word_of}
 use Rattle.policy.specs.Labels.{filled}
-use Rattle.policy.specs.Words.{Frame, Reading, fault, advanced, ended}
+use Rattle.policy.specs.Words.{Reading, fault, advanced}
 
 -- what is made of the words from number i on, or where they are declined
 unfoldable pub walk : {X : Type 0} → (Reading → Word → X → X) → Sizes → Reading → X → ℕ → List ℕ → Result X Refusal

@@ -33,7 +33,7 @@ fn meets_nothing(label: Label) -> bool
 }
 
 fn open<V: Vocabulary>(scheme: &V, clause: ClauseRecord, label: Label) -> Opening
-    ensures { Opens (orders scheme.now) clause label result }
+    ensures { Opens (V.orders scheme.now) clause label result }
 {
     match clause.kind {
         Kind::Allow => {
@@ -63,8 +63,8 @@ pub(crate) fn decide<V: Vocabulary>(
 ) -> Decision
     requires nested { Nested records.now }
     requires inside { number < length records.now }
-    ensures passed { result.passed ≡ allows (orders scheme.now) (tree records.now number) label }
-    ensures clause { result.clause ≡ decider (orders scheme.now) number (tree records.now number) label }
+    ensures passed { result.passed ≡ allows (V.orders scheme.now) (tree records.now number) label }
+    ensures clause { result.clause ≡ decider (V.orders scheme.now) number (tree records.now number) label }
 {
     let own = records[number];
     let asked = match open(scheme, own, label) {
@@ -98,7 +98,7 @@ pub(crate) fn allows<V: Vocabulary>(
 ) -> bool
     requires nested { Nested records.now }
     requires inside { number < length records.now }
-    ensures { result ≡ allows (orders scheme.now) (tree records.now number) label }
+    ensures { result ≡ allows (V.orders scheme.now) (tree records.now number) label }
 {
     decide(scheme, records, number, label).passed
 }
@@ -114,7 +114,7 @@ fn leave_out<V: Vocabulary>(
 ) -> u64
     requires nested { Nested records.now }
     requires inside { number < length records.now }
-    ensures { result ≡ left_after (orders scheme.now) (tree records.now number) label left value }
+    ensures { result ≡ left_after (V.orders scheme.now) (tree records.now number) label left value }
 {
     let types = remove(left, value);
     let fewer = Label { types, ..label };
@@ -134,7 +134,7 @@ pub(crate) fn evidence<V: Vocabulary>(
 ) -> u64
     requires nested { Nested records.now }
     requires inside { number < length records.now }
-    ensures { result ≡ evidence (orders scheme.now) (tree records.now number) label }
+    ensures { result ≡ evidence (V.orders scheme.now) (tree records.now number) label }
 {
     if allows(scheme, records, number, label) {
         return 0;

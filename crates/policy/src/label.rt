@@ -24,7 +24,7 @@ pub(crate) fn or_top(size: u8, set: u64) -> u64
 impl Label {
     /// The label with each attribute that is left out, an empty set, as its top alone. Data types are never left out: there may be none.
     pub fn declared<V: Vocabulary>(self, scheme: &V) -> Label
-        ensures { result ≡ declared (scheme_sizes (orders scheme.now)) self }
+        ensures { result ≡ declared (scheme_sizes (V.orders scheme.now)) self }
     {
         let sizes = scheme.sizes();
         Label {

@@ -1,4 +1,6 @@
 //! LEGALEASE policies: clauses over labels, the words that spell them, and what they allow.
+#![tactic(auto)]
+
 mod clause;
 pub mod deciding;
 mod draft;

@@ -8,7 +8,7 @@ use lattice::bitset::{contains, insert};
 
 // Whether `value` is at or below some value of `list`.
 fn is_reached<L: Lattice>(lattice: &L, value: u8, list: u64) -> bool
-    ensures { result ≡ some_of list (λ w. (order lattice.now).below value w) }
+    ensures { result ≡ some_of list (λ w. (L.order lattice.now).below value w) }
 {
     for w in 0..64u8 {
         if contains(list, w) && lattice.below(value, w) {
@@ -20,7 +20,7 @@ fn is_reached<L: Lattice>(lattice: &L, value: u8, list: u64) -> bool
 
 // Whether each value of `label` is at or below some value of `list`.
 pub(crate) fn covers<L: Lattice>(lattice: &L, label: u64, list: u64) -> bool
-    ensures { result ≡ covered_in (order lattice.now) label list }
+    ensures { result ≡ covered_in (L.order lattice.now) label list }
 {
     for v in 0..64u8 {
         if contains(label, v) && !is_reached(lattice, v, list) {
@@ -32,7 +32,7 @@ pub(crate) fn covers<L: Lattice>(lattice: &L, label: u64, list: u64) -> bool
 
 // What `value` has in common with `label`: the join of its meets with the values of `label`.
 fn common<L: Lattice>(lattice: &L, label: u64, value: u8) -> u8
-    ensures { result ≡ overlap (order lattice.now) label value }
+    ensures { result ≡ overlap (L.order lattice.now) label value }
 {
     let mut sum = 0;
     for v in 0..64u8 {
@@ -46,7 +46,7 @@ fn common<L: Lattice>(lattice: &L, label: u64, value: u8) -> u8
 
 // What each value of `list` has in common with `label`.
 pub(crate) fn narrow<L: Lattice>(lattice: &L, label: u64, list: u64) -> u64
-    ensures { result ≡ narrowed_in (order lattice.now) label list }
+    ensures { result ≡ narrowed_in (L.order lattice.now) label list }
 {
     let mut narrowed = 0;
     for w in 0..64u8 {

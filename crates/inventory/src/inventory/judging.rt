@@ -36,8 +36,8 @@ impl Inventory<'_> {
         scheme: &V,
         policy: &Policy,
     ) -> Result<Verdict, Refusal>
-        ensures answered { Answered (ledger self.now) (judging node (orders scheme.now) (policy_of policy.now)) (judged_answer result) }
-        ensures promised { Promised (ledger self.now) node (orders scheme.now) (policy_of policy.now) result }
+        ensures answered { Answered (ledger self.now) (judging node (V.orders scheme.now) (policy_of policy.now)) (judged_answer result) }
+        ensures promised { Promised (ledger self.now) node (V.orders scheme.now) (policy_of policy.now) result }
     {
         self.check_judge(node, scheme.sizes(), policy.sizes())?;
         let label = self.held(node).declared(scheme);

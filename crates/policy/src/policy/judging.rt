@@ -21,25 +21,25 @@ pub struct Verdict {
 impl Policy {
     /// Whether the policy allows `label`, and the number of the clause that decides.
     pub fn decide<V: Vocabulary>(&self, scheme: &V, label: Label) -> Decision
-        ensures passed { result.passed ≡ allows (orders scheme.now) (policy_of self.now).clause label }
-        ensures clause { result.clause ≡ decider (orders scheme.now) 0 (policy_of self.now).clause label }
+        ensures passed { result.passed ≡ allows (V.orders scheme.now) (policy_of self.now).clause label }
+        ensures clause { result.clause ≡ decider (V.orders scheme.now) 0 (policy_of self.now).clause label }
     {
         deciding::decide(scheme, &self.clauses[0..self.count], 0, label)
     }
 
     /// The data types that a refusal of `label` rests on: none where it passes.
     pub fn evidence<V: Vocabulary>(&self, scheme: &V, label: Label) -> u64
-        ensures { result ≡ evidence (orders scheme.now) (policy_of self.now).clause label }
+        ensures { result ≡ evidence (V.orders scheme.now) (policy_of self.now).clause label }
     {
         deciding::evidence(scheme, &self.clauses[0..self.count], 0, label)
     }
 
     /// The whole verdict on `label`.
     pub fn judge<V: Vocabulary>(&self, scheme: &V, label: Label) -> Verdict
-        ensures passed { result.passed ≡ allows (orders scheme.now) (policy_of self.now).clause label }
-        ensures clause { result.clause ≡ decider (orders scheme.now) 0 (policy_of self.now).clause label }
-        ensures evidence { result.evidence ≡ evidence (orders scheme.now) (policy_of self.now).clause label }
-        ensures just { Just (orders scheme.now) (policy_of self.now).clause label result.passed result.clause result.evidence }
+        ensures passed { result.passed ≡ allows (V.orders scheme.now) (policy_of self.now).clause label }
+        ensures clause { result.clause ≡ decider (V.orders scheme.now) 0 (policy_of self.now).clause label }
+        ensures evidence { result.evidence ≡ evidence (V.orders scheme.now) (policy_of self.now).clause label }
+        ensures just { Just (V.orders scheme.now) (policy_of self.now).clause label result.passed result.clause result.evidence }
     {
         let decision = self.decide(scheme, label);
         Verdict {

@@ -41,7 +41,7 @@ impl Policy {
 
     /// Makes this the policy that the words spell for the lattices of `scheme`. Words that spell none are refused, and the policy is as it was.
     pub fn read<V: Vocabulary>(&mut self, words: &[u32], scheme: &V) -> Result<(), Refusal>
-        ensures { Takes (scheme_sizes (orders scheme.now)) words.now self.old result self.new }
+        ensures { Takes (scheme_sizes (V.orders scheme.now)) words.now self.old result self.new }
     {
         let draft = Draft::read(words, scheme.sizes())?;
         let clauses = draft.clauses;

@@ -1,5 +1,5 @@
 -- The first line ends before the first newline, or at the end of the text.
-use Rattle.std.proofs.Common.{◌≡◌, ℕ, ◌<◌, eqb, List, [], length, sym, refl, arith}
+use Rattle.std.proofs.Common.{◌≡◌, ◌<◌, [], length, sym, arith}
 use Rattle.std.proofs.lemmas.List.{take_rest, length-drop, nil_from_length}
 use Rattle.std.proofs.lemmas.Bool.{eqb-true, eqb-false}
 use Rattle.lexer.specs.Lines.{lines_of}

@@ -1,5 +1,5 @@
 -- The quotient says whether the product and the sum stay within the bound.
-use Rattle.std.proofs.Common.{◌+◌, ◌*◌, ◌≤◌, arith}
+use Rattle.std.proofs.Common.{arith}
 use Rattle.lexer.proofs.Values.{at_most_below, at_most_above, sum_fits, sum_high}
 use Rattle.lexer.proofs.numbers.push_digit.Goals as goal
 

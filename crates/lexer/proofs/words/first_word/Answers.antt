@@ -1,5 +1,5 @@
 -- After the blanks a word goes on as far as its bytes do.
-use Rattle.std.proofs.Common.{◌≡◌, refl, arith}
+use Rattle.std.proofs.Common.{refl, arith}
 use Rattle.lexer.proofs.WordCuts.{word_over, word_cut, word_bytes, word_shorter}
 use Rattle.lexer.proofs.words.first_word.Goals as goal
 

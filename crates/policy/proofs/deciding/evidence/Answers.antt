@@ -20,7 +20,7 @@ loop-v-preserved g c =
     elim c.if-contains.branch [
       | then-contains w ↦
           left_taken (g.V.Vocabulary.orders c.args.scheme.now) (tree c.args.records.now c.args.number) c.args.label
-          c.loop-v.v c.loop-v.left c.if-contains.left (sym c.contains.ensures ∙ w.if-contains.true) c.loop-v.invariant (w.left-is ∙ w.leave-out-left.ensures)
+          c.loop-v.v c.loop-v.left c.if-contains.left (sym c.contains.ensures ∙ w.if-contains.true) c.loop-v.invariant (w.left-is ∙ w.leave_out-left.ensures)
       | else-contains w ↦
           left_passed (g.V.Vocabulary.orders c.args.scheme.now) (tree c.args.records.now c.args.number) c.args.label
           c.loop-v.v c.loop-v.left c.if-contains.left (sym c.contains.ensures ∙ w.if-contains.false) c.loop-v.invariant w.left-is

@@ -15,9 +15,9 @@ loop-v-preserved g c =
     let o : Order = g.L.Lattice.order c.args.lattice.now in
     elim c.if-contains.branch [
       | then-contains w ↦
-          overlap_taken o c.args.label c.args.value c.loop-v.v c.loop-v.sum c.if-contains.sum w.unwrap-or-part.result
+          overlap_taken o c.args.label c.args.value c.loop-v.v c.loop-v.sum c.if-contains.sum w.unwrap_or-part.result
           w.meet.result w.join.result (sym c.contains.ensures ∙ w.if-contains.true) c.loop-v.invariant
-          w.meet.ensures w.unwrap-or-part.ensures w.join.ensures (w.sum-is ∙ w.unwrap-or-sum.ensures)
+          w.meet.ensures w.unwrap_or-part.ensures w.join.ensures (w.sum-is ∙ w.unwrap_or-sum.ensures)
       | else-contains w ↦
           overlap_passed o c.args.label c.args.value c.loop-v.v c.loop-v.sum c.if-contains.sum
           (sym c.contains.ensures ∙ w.if-contains.false) c.loop-v.invariant w.sum-is

@@ -4,24 +4,24 @@ use Rattle.lattice.specs.Sets.{has, every, all_of, some_of}
 use Rattle.policy.specs.Clauses.{covered_in}
 use Rattle.policy.proofs.Sets.{every_more, all_of_missed}
 use Rattle.policy.proofs.narrowing.covers.Goals as goal
-use Rattle.policy.proofs.narrowing.covers.Goals.{else-contains-via-then-contains+else-not-is-reached, else-contains-via-else-contains}
+use Rattle.policy.proofs.narrowing.covers.Goals.{else-contains-via-then-contains+else-not-is_reached, else-contains-via-else-contains}
 
 pub loop-v-init : goal.loop-v-init
 unfolding every
 loop-v-init g c = refl
 
-pub returns-then-not-is-reached : goal.returns-then-not-is-reached
+pub returns-then-not-is_reached : goal.returns-then-not-is_reached
 unfolding covered_in
-returns-then-not-is-reached g c =
+returns-then-not-is_reached g c =
     sym (all_of_missed c.args.label (λ v. some_of c.args.list (λ w. (g.L.Lattice.order c.args.lattice.now).below v w)) c.loop-v.v
-    c.loop-v-test.true (sym c.if-contains.ensures) (sym c.if-not-is-reached.ensures))
+    c.loop-v-test.true (sym c.if-contains.ensures) (sym c.if-not-is_reached.ensures))
 
 pub loop-v-preserved : goal.loop-v-preserved
 loop-v-preserved g c =
     let reached : ℕ → Bool = λ v. some_of c.args.list (λ w. (g.L.Lattice.order c.args.lattice.now).below v w) in
     let here : (not (has c.args.label c.loop-v.v) || reached c.loop-v.v) ≡ true = elim c.else-contains.branch [
-      | else-contains-via-then-contains+else-not-is-reached w ↦
-          or_right (not (has c.args.label c.loop-v.v)) (reached c.loop-v.v) (sym w.is-reached.ensures ∙ w.if-not-is-reached.false)
+      | else-contains-via-then-contains+else-not-is_reached w ↦
+          or_right (not (has c.args.label c.loop-v.v)) (reached c.loop-v.v) (sym w.is_reached.ensures ∙ w.if-not-is_reached.false)
       | else-contains-via-else-contains w ↦
           or_left (not (has c.args.label c.loop-v.v)) (reached c.loop-v.v)
           (not_from_false (has c.args.label c.loop-v.v) (sym c.contains.ensures ∙ w.if-contains.false))

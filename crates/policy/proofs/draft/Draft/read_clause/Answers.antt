@@ -1,26 +1,26 @@
-use Rattle.std.proofs.Common.{◌≡◌, ℕ, ◌-◌, ◌<◌, ◌≤◌, length, sym, refl, ap, ◌∙◌, arith, rules}
+use Rattle.std.proofs.Common.{◌≤◌, length, rules}
 use Rattle.std.proofs.lemmas.Result.{err_from_is_err_and}
 use Rattle.policy.proofs.First.{begun_none, begun_stray, begun_on, begun_stops}
 use Rattle.policy.proofs.draft.Draft.read_clause.Goals as goal
 
-pub returns-in-default : goal.returns-in-default
-returns-in-default c = begun_none c.args.self.now c.args.words.now (search rules) c.requires.0 c.requires.1.0
+pub returns-in_default : goal.returns-in_default
+returns-in_default c = begun_none c.args.self.now c.args.words.now (search rules) c.requires.0 c.requires.1.0
 
-pub returns-in-default-word : goal.returns-in-default-word
-returns-in-default-word c =
+pub returns-in_default-word : goal.returns-in_default-word
+returns-in_default-word c =
     let some : 1 ≤ length c.args.words.now = search rules in
-    begun_stray c.args.self.now c.args.words.now some c.requires.0 c.requires.1.0 c.word-of-word.result c.word-of-word.ensures c.stray.result c.stray.ensures c.in-default-word.not-Head
+    begun_stray c.args.self.now c.args.words.now some c.requires.0 c.requires.1.0 c.word_of-word.result c.word_of-word.ensures c.stray.result c.stray.ensures c.in_default-word.not-Head
 
-pub returns-in-err-left : goal.returns-in-err-left
-returns-in-err-left c =
+pub returns-in_err-left : goal.returns-in_err-left
+returns-in_err-left c =
     let some : 1 ≤ length c.args.words.now = search rules in
-    let p = err_from_is_err_and c.from-residual.result c.from-residual.ensures.1 in
-    let h = begun_stops c.args.self.now c.args.words.now some c.requires.0 c.requires.1.0 c.word-of-word.result c.word-of-word.ensures
-    c.in-Head.kind c.in-Head.is c.inside.result c.inside.ensures c.opened-record.result c.opened-record.ensures c.in-err-left.field-0.0 c.in-err-left.ensures in
+    let p = err_from_is_err_and c.from_residual.result c.from_residual.ensures.1 in
+    let h = begun_stops c.args.self.now c.args.words.now some c.requires.0 c.requires.1.0 c.word_of-word.result c.word_of-word.ensures
+    c.in-Head.kind c.in-Head.is c.inside.result c.inside.ensures c.opened-record.result c.opened-record.ensures c.in_err-left.field-0.0 c.in_err-left.ensures in
     rw (p.1, p.2) h
 
 pub returns : goal.returns
 returns c =
     let some : 1 ≤ length c.args.words.now = search rules in
-    begun_on c.args.self.now c.args.words.now some c.requires.0 c.requires.1.0 c.word-of-word.result c.word-of-word.ensures
-    c.in-Head.kind c.in-Head.is c.inside.result c.inside.ensures c.opened-record.result c.opened-record.ensures c.in-ok-left.left c.read-kind.new.self c.read-kind.new.record c.in-ok-left.ensures
+    begun_on c.args.self.now c.args.words.now some c.requires.0 c.requires.1.0 c.word_of-word.result c.word_of-word.ensures
+    c.in-Head.kind c.in-Head.is c.inside.result c.inside.ensures c.opened-record.result c.opened-record.ensures c.in_ok-left.left c.read_kind.new.self c.read_kind.new.record c.in_ok-left.ensures

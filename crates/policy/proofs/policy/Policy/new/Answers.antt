@@ -1,4 +1,4 @@
-use Rattle.std.proofs.Common.{◌≡◌, List, replicate, refl, ap, arith, lit≤}
+use Rattle.std.proofs.Common.{List, replicate, refl, ap, arith, lit≤}
 use Rattle.policy.specs.declared.clause.Kind.TheVariants.{Deny}
 use Rattle.policy.specs.declared.label.Label.{Label}
 use Rattle.policy.specs.declared.clause.ClauseRecord.{ClauseRecord}
@@ -17,8 +17,8 @@ rows = replicate 256 (record { kind = Deny; list = two; end = 1 })
 rows_laid : LaidClause rows 0 (deny two none)
 rows_laid = (refl, tt)
 
-pub invariant-of-result : goal.invariant-of-result
-invariant-of-result c = ((omega arith, omega arith), (∣ front_nested rows (deny two none) 1 rows_laid refl (lit≤ tt) ∣₁, tt))
+pub invariant_of-result : goal.invariant_of-result
+invariant_of-result c = record { few = (omega arith, omega arith); nested = ∣ front_nested rows (deny two none) 1 rows_laid refl (lit≤ tt) ∣₁ }
 
 pub returns : goal.returns
 returns c = ap (λ t. record { sizes = twos; clause = t }) (front_tree rows (deny two none) 1 rows_laid refl (lit≤ tt))
