@@ -1,12 +1,11 @@
 -- Until the next change, path shows a flow path that no other undercuts. Assumes nothing.
-use Rattle.std.proofs.Common.{◌≡◌, ℕ, zero, suc, ◌<◌, ◌≤◌, Bool, true, false, ◌&&◌, T, ltb, ◌⊎◌, List, [], ◌∷◌, length, Some, None, Option, sym, refl, ap, ◌∙◌, subst, inl, inr, arith, lt→ltb}
+use Rattle.std.proofs.Common.{◌≡◌, ℕ, ◌<◌, Bool, true, false, T, ltb, List, [], ◌∷◌, length, Some, None, Option, sym, refl, subst, inl, inr, arith, lt→ltb}
 use Rattle.std.proofs.lemmas.Bool.{true≢false}
-use Rattle.lattice.specs.Sets.{has}
 use Rattle.refusals.specs.declared.refusal.Reason.{Reason}
-use Rattle.ledger.specs.Ledger.{Ledger, Call, enter, step, mark, unmark, verify, draw, strike, settle, judge, path, unless, good_value, node_there, declined, accepted, after, changing, IsFlowPath, Brought, Shortest}
+use Rattle.ledger.specs.Ledger.{Ledger, Call, enter, step, mark, unmark, verify, draw, strike, settle, judge, path, unless, good_value, declined, accepted, after, changing}
 use Rattle.refusals.specs.declared.refusal.Refusal.{Refusal}
 use Rattle.lattice.specs.Faults.{or_else}
-use Rattle.ledger.specs.Run.{Answer, refused, shown, Given, Answered, PathShown, Event, is_change, ShowsEvidence, PathsFollow, EveryCallAnswered}
+use Rattle.ledger.specs.Run.{Answer, refused, Given, Answered, PathShown, Event, is_change, ShowsEvidence, PathsFollow, EveryCallAnswered}
 use Rattle.ledger.specs.Sound.{Sound}
 use Rattle.lattice.specs.Tests.{from_true}
 use Rattle.ledger.proofs.Values.{path_value}

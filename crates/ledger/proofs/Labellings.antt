@@ -1,10 +1,9 @@
 -- Every flow path ends in a value of a closed labelling, no nearer than its distance. Assumes nothing.
-use Rattle.std.proofs.Common.{◌≡◌, ℕ, zero, suc, ◌+◌, ◌^◌, ◌<◌, ◌≤◌, false, T, ◌↔◌, List, [], ◌∷◌, length, sym, refl, ap, ◌∙◌, subst, arith}
+use Rattle.std.proofs.Common.{◌≡◌, ℕ, ◌+◌, ◌≤◌, T, List, [], ◌∷◌, length, sym, ap, ◌∙◌, subst, arith}
 use mathlib.Core.Logic.{∥∥₁_elim}
 use lib.Dec.{T_prop}
 use Rattle.lattice.specs.Sets.{has}
-use Rattle.ledger.specs.Ledger.{Ledger, node_at, flow_at, carried, Trail, IsFlowPath, Brought, Shortest}
-use Rattle.ledger.specs.Run.{LabelOf}
+use Rattle.ledger.specs.Ledger.{Ledger, flow_at, carried, Trail, IsFlowPath}
 use Rattle.ledger.specs.Labelling.{Carries, Closed, Apart, ClosedLabellingsAreLabels, NearPathsAreShortest}
 
 module _ (L : Ledger) (label : ℕ → ℕ) (closed : Closed L label) where

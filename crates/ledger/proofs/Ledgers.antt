@@ -1,17 +1,16 @@
 -- A fresh ledger is sound, and every call keeps it so. Assumes nothing.
-use Rattle.std.proofs.Common.{◌≡◌, ℕ, zero, suc, ◌+◌, ◌-◌, ◌^◌, ◌<◌, ◌≤◌, min, max, Bool, true, false, cond, not, ◌&&◌, T, eqb, ltb, leb, ◌⊎◌, List, [], ◌∷◌, ◌++◌, length, get_or, take, set, Some, None, Option, sym, refl, ap, ◌∙◌, subst, inl, inr, arith, ltb→lt, lt→ltb, length-append, length-set}
+use Rattle.std.proofs.Common.{◌≡◌, ℕ, zero, suc, ◌-◌, ◌<◌, ◌≤◌, Bool, true, false, cond, ◌&&◌, T, eqb, ltb, List, [], ◌∷◌, ◌++◌, length, get_or, set, Some, None, Option, refl, ap, ◌∙◌, inl, inr, arith, ltb→lt, lt→ltb, length-append, length-set}
 use lib.ListN.{get_or-append}
 use lib.Seq.{get_or-append_seam}
 use Rattle.std.proofs.lemmas.Bool.{cases_lt, eq-eqb}
-use Rattle.lattice.specs.Sets.{has, with, without, every}
+use Rattle.lattice.specs.Sets.{with, without, every}
 use Rattle.lattice.specs.declared.sizes.Sizes.{Sizes}
 use Rattle.policy.specs.Words.{in_range}
 use Rattle.refusals.specs.declared.refusal.Reason.{Reason}
-use Rattle.ledger.specs.Ledger.{Ledger, Node, Flow, Call, enter, step, mark, unmark, verify, draw, strike, settle, judge, path, nearest_size, counting, fresh, unless, stands, flow_number, good_row, good_value, node_there, declined, no_node_yet, node_at, flow_at, with_nodes, with_flows, with_marks, with_verified, same_flow, struck, struck_at, accepted, after}
-use Rattle.policy.specs.Policies.{Policy}
+use Rattle.ledger.specs.Ledger.{Ledger, Node, Flow, Call, enter, step, mark, unmark, verify, draw, strike, settle, judge, path, nearest_size, counting, fresh, unless, flow_number, good_row, good_value, node_there, declined, no_node_yet, node_at, flow_at, with_nodes, with_flows, with_marks, with_verified, same_flow, struck, struck_at, accepted, after}
 use Rattle.refusals.specs.declared.refusal.Refusal.{Refusal}
 use Rattle.lattice.specs.Faults.{or_else}
-use Rattle.ledger.specs.Sound.{GoodSize, GoodSizes, GoodNode, GoodFlow, Sound}
+use Rattle.ledger.specs.Sound.{GoodSize, GoodNode, GoodFlow, Sound}
 use Rattle.policy.proofs.Sets.{every_from}
 use Rattle.ledger.proofs.Lists.{Each, each_push, each_set, each_take}
 use Rattle.lattice.specs.Tests.{T_and, and_T, from_true, is_true}

@@ -1,16 +1,15 @@
 -- Where every call of a run is answered as the ledger before it says, every judgement is right. Assumes nothing.
-use Rattle.std.proofs.Common.{◌≡◌, ℕ, zero, suc, ◌^◌, ◌<◌, ◌≤◌, Bool, true, false, cond, T, ◌⊎◌, ◌↔◌, List, [], ◌∷◌, length, Some, None, Option, sym, refl, ap, ◌∙◌, subst, inl, inr, arith}
-use Rattle.std.proofs.lemmas.Bool.{both_ways, cond-false}
+use Rattle.std.proofs.Common.{◌≡◌, ℕ, ◌<◌, Bool, true, false, cond, T, List, [], ◌∷◌, length, Some, None, Option, sym, refl, ◌∙◌, subst, arith}
+use Rattle.std.proofs.lemmas.Bool.{cond-false}
 use Rattle.lattice.specs.Sets.{has, without, gather}
 use Rattle.lattice.specs.Schemes.{Scheme}
 use Rattle.policy.specs.declared.label.Label.{Label}
 use Rattle.policy.specs.Clauses.{Clause, allows, decider, with_types, evidence}
 use Rattle.lattice.specs.Schemes.{Lattices}
-use Rattle.policy.specs.Laws.{Subset}
-use Rattle.ledger.specs.Ledger.{Ledger, Call, enter, step, mark, unmark, verify, draw, strike, settle, judge, path, declined, after, fresh, Brought, CanBring, label_at}
+use Rattle.ledger.specs.Ledger.{Ledger, Call, enter, step, mark, unmark, verify, draw, strike, settle, judge, path, declined, after, fresh, label_at}
 use Rattle.policy.specs.Policies.{Policy}
 use Rattle.refusals.specs.declared.refusal.Refusal.{Refusal}
-use Rattle.ledger.specs.Run.{Answer, refused, judged, LabelOf, Given, Answered, Allowed, PassedExactly, Evident, Event, PathsFollow, JudgedRight, EveryCallAnswered, EveryJudgementRight}
+use Rattle.ledger.specs.Run.{Answer, refused, judged, LabelOf, Given, Answered, PassedExactly, Evident, Event, PathsFollow, JudgedRight, EveryCallAnswered, EveryJudgementRight}
 use Rattle.ledger.specs.Sound.{Sound, LatticesBrought, EveryCallBringsLattices}
 use Rattle.ledger.specs.Promise.{RunsKeepThePromise, LedgersStaySound, FreshRunsKeepThePromise}
 use Rattle.lattice.proofs.Members.{has_before_without}

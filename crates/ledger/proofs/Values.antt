@@ -1,12 +1,12 @@
 -- The values that flow paths of a sound ledger bring go from 1 to the size less 1. Assumes nothing.
-use Rattle.std.proofs.Common.{◌≡◌, ℕ, zero, suc, ◌<◌, ◌≤◌, Bool, true, false, ◌&&◌, T, eqb, ltb, ◌⊎◌, List, [], ◌∷◌, length, get_or, sym, refl, ap, ◌∙◌, subst, inl, inr, arith, eqb→eq, ltb→lt, lt→ltb}
+use Rattle.std.proofs.Common.{◌≡◌, ℕ, ◌<◌, ◌&&◌, T, eqb, ltb, List, [], ◌∷◌, length, get_or, ap, inl, inr, arith, eqb→eq, ltb→lt, lt→ltb}
 use mathlib.Core.Logic.{∥∥₁_elim}
 use lib.Dec.{T_prop}
 use lib.ListN.{get_or-eq_default}
 use Rattle.std.proofs.lemmas.Bool.{cases_lt}
-use Rattle.lattice.specs.Sets.{has, every}
+use Rattle.lattice.specs.Sets.{every}
 use Rattle.ledger.specs.Ledger.{Ledger, good_row, good_value, node_at, flow_at, carried, Trail, IsFlowPath, Brought}
-use Rattle.ledger.specs.Sound.{GoodNode, Sound}
+use Rattle.ledger.specs.Sound.{Sound}
 use Rattle.policy.proofs.Sets.{every_below}
 use Rattle.lattice.specs.Tests.{T_and, and_T, is_true, from_true}
 use Rattle.ledger.proofs.Ranges.{range_value}

@@ -1,5 +1,5 @@
 -- The ledger: what a list of calls makes of a fresh inventory, from the calls and their arguments alone. Assumes nothing.
-use Rattle.std.specs.Prelude.{◌≡◌, ℕ, zero, suc, ◌+◌, ◌-◌, ◌*◌, ◌/◌, ◌%◌, ◌^◌, ◌<◌, ◌≤◌, min, max, Bool, true, false, cond, not, ◌&&◌, ◌||◌, T, ltb, List, [], ◌∷◌, ◌++◌, length, take, set, Some, None, Option, ◌==◌, nat_lt, slice_index, slice_index_or, slice_set}
+use Rattle.std.specs.Prelude.{◌≡◌, ℕ, zero, suc, ◌-◌, ◌/◌, ◌<◌, ◌≤◌, min, max, Bool, true, false, cond, not, ◌&&◌, T, ltb, List, [], ◌∷◌, ◌++◌, length, take, Some, None, Option, ◌==◌, nat_lt, slice_index, slice_index_or, slice_set}
 use Rattle.lattice.specs.Sets.{has, with, without, every}
 use Rattle.lattice.specs.Schemes.{Scheme, scheme_sizes}
 use Rattle.lattice.specs.Faults.{or_else}

@@ -1,10 +1,8 @@
 -- What every list of calls can rely on. Assumes nothing.
-use Rattle.std.specs.Prelude.{◌≡◌, ℕ, zero, suc, ◌+◌, ◌^◌, ◌<◌, ◌≤◌, Bool, true, false, cond, not, ◌&&◌, ◌||◌, T, ◌⊎◌, ◌↔◌, List, [], ◌∷◌, ◌++◌, length, Some, None, Option}
+use Rattle.std.specs.Prelude.{◌≡◌, ℕ, ◌^◌, ◌<◌, ◌≤◌, Bool, true, false, T, ◌⊎◌, ◌↔◌, List, [], ◌∷◌, length, Some, None}
 use Rattle.lattice.specs.Sets.{has, without}
-use Rattle.lattice.specs.Order.{Lattice}
 use Rattle.lattice.specs.Schemes.{Scheme}
-use Rattle.policy.specs.Clauses.{Clause, allows, decider, evidence}
-use Rattle.refusals.specs.declared.refusal.Reason.{Reason}
+use Rattle.policy.specs.Clauses.{allows, decider, evidence}
 use Rattle.refusals.specs.declared.refusal.Reason.TheVariants.{NotInLabel, ShortPiece}
 use Rattle.ledger.specs.Ledger.{Ledger, Call, enter, step, mark, unmark, verify, draw, strike, settle, judge, path, declined, after, changing, IsFlowPath, Brought, CanBring, Shortest, label_at}
 use Rattle.policy.specs.Policies.{Policy}
