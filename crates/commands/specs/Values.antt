@@ -5,7 +5,7 @@
 use Rattle.std.specs.Prelude.{ℕ, ◌+◌, cond, List, [], ◌∷◌, length, Some, None, Ok, Err, codes, Option, Result, nat_lt, slice_index_or}
 use Rattle.std.specs.Str.{bytes_eq}
 use Rattle.lexer.specs.declared.numbers.NumberFault.{NumberFault}
-use Rattle.lexer.specs.declared.numbers.NumberFault.TheVariants as number-faults
+use Rattle.lexer.specs.declared.numbers.NumberFault.TheVariants as number_faults
 use Rattle.lexer.specs.Names.{name_is}
 use Rattle.lexer.specs.Numbers.{number_of, up_to}
 use Rattle.lexer.specs.Sets.{set_of}
@@ -18,12 +18,12 @@ use Rattle.commands.specs.Verbs.{kinds_of, more_of}
 
 -- what is wrong with a word that should be a number, and with one that should be a set
 abbrev pub no_number : NumberFault → Fault
-no_number number-faults.NotANumber = NotANumber
-no_number number-faults.TooLarge = TooLarge
+no_number number_faults.NotANumber = NotANumber
+no_number number_faults.TooLarge = TooLarge
 
 abbrev pub no_set : NumberFault → Fault
-no_set number-faults.NotANumber = NotASet
-no_set number-faults.TooLarge = TooLarge
+no_set number_faults.NotANumber = NotASet
+no_set number_faults.TooLarge = TooLarge
 
 abbrev pub faulted : (NumberFault → Fault) → Result ℕ NumberFault → Result ℕ Fault
 faulted f (Ok n) = Ok n

@@ -1,25 +1,24 @@
 -- What path answers is what the ledger asks.
-use Rattle.std.proofs.Common.{◌≡◌, ℕ, zero, suc, ◌+◌, ◌-◌, ◌*◌, ◌/◌, ◌%◌, ◌^◌, ◌<◌, ◌≤◌, Bool, true, false, cond, ◌&&◌, T, ltb, ◌≢◌, List, [], ◌∷◌, ◌++◌, length, get_or, take, drop, set, Some, None, Option, sym, refl, ap, ◌∙◌, subst, inl, inr, append_assoc, arith}
+use Rattle.std.proofs.Common.{◌≡◌, ℕ, ◌<◌, ◌≤◌, true, false, ltb, List, length, Some, None, refl, ap, ◌∙◌, inl, inr, arith}
 use Rattle.std.proofs.lemmas.Bool.{and_parts, ltb-true, lt-ltb, le-ltb, cond-true, cond-false, both_ways}
 use Rattle.lattice.specs.Sets.{has}
 use Rattle.refusals.specs.declared.refusal.Reason.TheVariants.{NotInLabel, ShortPiece}
-use Rattle.ledger.specs.Ledger.{Ledger, path, good_value, IsFlowPath, Shortest, Brought}
+use Rattle.ledger.specs.Ledger.{path, IsFlowPath, Shortest}
 use Rattle.refusals.specs.declared.refusal.Refusal.{Refusal}
-use Rattle.ledger.specs.Run.{Answer, Answered, refused, shown}
+use Rattle.ledger.specs.Run.{Answered, refused, shown}
 use Rattle.lattice.specs.Tests.{is_true, from_true}
 use Rattle.inventory.specs.View.{View, ledger_of, record_at}
-use Rattle.flows.specs.Graph.{no_flow}
 use Rattle.inventory.specs.View.{graph_of}
-use Rattle.flows.specs.Graph.{holds, node_at, flow_at, FlowPath}
-use Rattle.flows.specs.Certificate.{distance, arrival, Certified}
+use Rattle.flows.specs.Graph.{FlowPath}
+use Rattle.flows.specs.Certificate.{distance, Certified}
 use Rattle.flows.specs.Paths.{hops}
 use Rattle.inventory.specs.Paths.{told, told_on}
 use Rattle.inventory.specs.Sound.{Sound}
 use Rattle.inventory.specs.Checks.{refusal_of}
 use Rattle.inventory.proofs.Declines.{path_passed}
 use Rattle.flows.proofs.Trails.{reached}
-use Rattle.inventory.proofs.Bridge.{certified, joined, has_holds, holds_has, path_to, brought_near, not_brought}
-use Rattle.inventory.proofs.Outcomes.{refused_answer, given_answer}
+use Rattle.inventory.proofs.Bridge.{certified, joined, has_holds, path_to, brought_near, not_brought}
+use Rattle.inventory.proofs.Outcomes.{given_answer}
 
 module _ (v : View) (s : Sound v) (n x room : ℕ) where
   pub told_refused : (e : Refusal) → refusal_of v (path n x room) ≡ Some e → told v n x room ≡ refused e

@@ -1,9 +1,9 @@
 -- Sets whose values go from 1 to a size less 1.
-use Rattle.std.proofs.Common.{◌≡◌, ℕ, ◌/◌, ◌%◌, ◌^◌, ◌<◌, Bool, true, false, ◌&&◌, eqb, ltb, refl, ⊎_elim, pow_pos}
+use Rattle.std.proofs.Common.{◌≡◌, ℕ, ◌/◌, ◌%◌, ◌^◌, true, false, eqb, ltb, refl, ⊎_elim, pow_pos}
 use native.Mathlib.Nat.{div-eq_of_lt}
 use Rattle.std.proofs.lemmas.Bool.{lt-ltb, and_from, cases_lt, le-ltb, and_left}
 use Rattle.ledger.specs.Ledger.{good_value}
-use Rattle.lattice.specs.Sets.{has, with, without}
+use Rattle.lattice.specs.Sets.{with, without}
 use Rattle.policy.specs.Words.{in_range}
 use Rattle.lattice.specs.Tests.{is_true, from_true}
 use Rattle.ledger.proofs.Ranges.{range_with, range_without}

@@ -1,23 +1,22 @@
 -- The graph of a view and its ledger have the same flow paths, so a certificate says what the labels are.
-use Rattle.std.proofs.Common.{◌≡◌, ℕ, zero, suc, ◌+◌, ◌-◌, ◌*◌, ◌/◌, ◌%◌, ◌^◌, ◌<◌, ◌≤◌, Bool, true, false, T, eqb, ltb, ◌≢◌, List, [], ◌∷◌, map, length, get_or, take, sym, refl, ap, ◌∙◌, subst, ⊎_elim, arith, pow_mono}
+use Rattle.std.proofs.Common.{◌≡◌, ℕ, zero, suc, ◌/◌, ◌%◌, ◌^◌, ◌<◌, ◌≤◌, true, T, eqb, ltb, ◌≢◌, List, [], ◌∷◌, map, length, get_or, take, sym, refl, ap, ◌∙◌, subst, ⊎_elim, arith, pow_mono}
 use mathlib.Core.Logic.{∥∥₁_elim}
 use lib.Dec.{T_prop}
 use Rattle.std.proofs.lemmas.List.{get_or-take}
-use Rattle.std.proofs.lemmas.Bool.{cases_lt, eq-eqb, and_parts, ltb-true, eqb-true}
+use Rattle.std.proofs.lemmas.Bool.{cases_lt, eq-eqb, and_parts, ltb-true}
 use Rattle.lattice.specs.Sets.{has}
-use Rattle.policy.specs.Words.{in_range}
-use Rattle.ledger.specs.Ledger.{Ledger, node_at as ledger-node-at, flow_at as ledger-flow-at, carried as ledger-carried, Trail as Ledger-trail, IsFlowPath, Brought, Shortest}
+use Rattle.ledger.specs.Ledger.{node_at as ledger_node_at, flow_at as ledger_flow_at, carried as ledger_carried, Trail as LedgerTrail, IsFlowPath, Brought}
 use Rattle.ledger.specs.Run.{LabelOf}
 use Rattle.lattice.proofs.Members.{bit_of}
 use Rattle.lattice.specs.Tests.{is_true, from_true}
 use Rattle.ledger.proofs.Ranges.{has_below}
 use Rattle.inventory.specs.View.{View, ledger_of, node_of, flow_of, graph_of}
 use Rattle.flows.specs.Graph.{no_node, no_flow, holds, node_at, flow_at, carried, through, Trail, FlowPath}
-use Rattle.flows.specs.Certificate.{distance, Certified, Near}
+use Rattle.flows.specs.Certificate.{Certified, Near}
 use Rattle.flows.specs.Fitting.{Joined, Bounded, SmallMarks}
 use Rattle.inventory.specs.Sound.{Sound}
 use Rattle.inventory.proofs.Lists.{read_at}
-use Rattle.inventory.proofs.Declines.{nodes_counted, flows_counted, steps_counted}
+use Rattle.inventory.proofs.Declines.{nodes_counted, flows_counted}
 use Rattle.flows.proofs.Certificates.{certificate}
 use Rattle.flows.proofs.Trails.{reached, complete}
 
@@ -52,15 +51,15 @@ module _ (v : View) (s : Sound v) where
   pub bounded : Bounded (graph_of v) 64
   bounded t x = omega (arith, s.rows_bounded t x, s.sized.3)
 
-  pub node_same : (n : ℕ) → n < v.node_count → ledger-node-at (ledger_of v) n ≡ node_of (node_at (graph_of v) n)
+  pub node_same : (n : ℕ) → n < v.node_count → ledger_node_at (ledger_of v) n ≡ node_of (node_at (graph_of v) n)
   unfolding ledger_of
   node_same n l = read_at node_of v.nodes v.node_count n no_node l
 
-  pub flow_same : (f : ℕ) → f < v.flow_count → ledger-flow-at (ledger_of v) f ≡ flow_of (flow_at (graph_of v) f)
+  pub flow_same : (f : ℕ) → f < v.flow_count → ledger_flow_at (ledger_of v) f ≡ flow_of (flow_at (graph_of v) f)
   unfolding ledger_of
   flow_same f l = read_at flow_of v.flows v.flow_count f no_flow l
 
-  pub carried_same : (t x : ℕ) → t < v.step_count → ledger-carried (ledger_of v) t x ≡ carried (graph_of v) t x
+  pub carried_same : (t x : ℕ) → t < v.step_count → ledger_carried (ledger_of v) t x ≡ carried (graph_of v) t x
   unfolding ledger_of
   carried_same t x l =
       let row = get_or v.steps t [] in
@@ -79,18 +78,18 @@ module _ (v : View) (s : Sound v) where
   unfolding ledger_of
   flows_long = flows_counted v s
 
-  through_same : (f x : ℕ) → f < v.flow_count → ledger-carried (ledger_of v) (ledger-flow-at (ledger_of v) f).step x ≡ through (graph_of v) f x
+  through_same : (f x : ℕ) → f < v.flow_count → ledger_carried (ledger_of v) (ledger_flow_at (ledger_of v) f).step x ≡ through (graph_of v) f x
   through_same f x l =
-      ap (λ q. ledger-carried (ledger_of v) q.step x) (flow_same f l) ∙ carried_same (flow_at (graph_of v) f).step x (s.flows_good f l).2
+      ap (λ q. ledger_carried (ledger_of v) q.step x) (flow_same f l) ∙ carried_same (flow_at (graph_of v) f).step x (s.flows_good f l).2
 
-  end_same : (f : ℕ) → f < v.flow_count → (ledger-flow-at (ledger_of v) f).to ≡ (flow_at (graph_of v) f).to
+  end_same : (f : ℕ) → f < v.flow_count → (ledger_flow_at (ledger_of v) f).to ≡ (flow_at (graph_of v) f).to
   end_same f l = ap (λ q. q.to) (flow_same f l)
 
-  open_same : (f : ℕ) → f < v.flow_count → (ledger-node-at (ledger_of v) (ledger-flow-at (ledger_of v) f).to).verified ≡ (node_at (graph_of v) (flow_at (graph_of v) f).to).verified
+  open_same : (f : ℕ) → f < v.flow_count → (ledger_node_at (ledger_of v) (ledger_flow_at (ledger_of v) f).to).verified ≡ (node_at (graph_of v) (flow_at (graph_of v) f).to).verified
   open_same f l =
-      ap (λ k. (ledger-node-at (ledger_of v) k).verified) (end_same f l) ∙ ap (λ q. q.verified) (node_same (flow_at (graph_of v) f).to (s.flows_good f l).1)
+      ap (λ k. (ledger_node_at (ledger_of v) k).verified) (end_same f l) ∙ ap (λ q. q.verified) (node_same (flow_at (graph_of v) f).to (s.flows_good f l).1)
 
-  pub trail_to : (fs : List ℕ) (a x b y : ℕ) → Trail (graph_of v) a x fs b y → Ledger-trail (ledger_of v) a x fs b y
+  pub trail_to : (fs : List ℕ) (a x b y : ℕ) → Trail (graph_of v) a x fs b y → LedgerTrail (ledger_of v) a x fs b y
   trail_to [] a x b y trail = trail
   trail_to (f ∷ fs) a x b y trail =
       let l = trail.0 in
@@ -99,16 +98,16 @@ module _ (v : View) (s : Sound v) where
         ap (λ q. q.from) (flow_same f l) ∙ trail.1,
         subst (λ (k : ℕ). 0 < k) (sym (through_same f x l)) (some_positive (through (graph_of v) f x) trail.2),
         open_same f l ∙ trail.3,
-        subst (λ (k : ℕ). Ledger-trail (ledger_of v) k (ledger-carried (ledger_of v) (ledger-flow-at (ledger_of v) f).step x) fs b y) (sym (end_same f l))
-            (subst (λ (u : ℕ). Ledger-trail (ledger_of v) (flow_at (graph_of v) f).to u fs b y) (sym (through_same f x l)) rest),
+        subst (λ (k : ℕ). LedgerTrail (ledger_of v) k (ledger_carried (ledger_of v) (ledger_flow_at (ledger_of v) f).step x) fs b y) (sym (end_same f l))
+            (subst (λ (u : ℕ). LedgerTrail (ledger_of v) (flow_at (graph_of v) f).to u fs b y) (sym (through_same f x l)) rest),
       )
 
-  pub trail_from : (fs : List ℕ) (a x b y : ℕ) → Ledger-trail (ledger_of v) a x fs b y → Trail (graph_of v) a x fs b y
+  pub trail_from : (fs : List ℕ) (a x b y : ℕ) → LedgerTrail (ledger_of v) a x fs b y → Trail (graph_of v) a x fs b y
   trail_from [] a x b y trail = trail
   trail_from (f ∷ fs) a x b y trail =
       let l : f < v.flow_count = omega (arith, trail.0, flows_long) in
-      let rest = subst (λ (u : ℕ). Ledger-trail (ledger_of v) (flow_at (graph_of v) f).to u fs b y) (through_same f x l)
-      (subst (λ (k : ℕ). Ledger-trail (ledger_of v) k (ledger-carried (ledger_of v) (ledger-flow-at (ledger_of v) f).step x) fs b y) (end_same f l) trail.4) in (
+      let rest = subst (λ (u : ℕ). LedgerTrail (ledger_of v) (flow_at (graph_of v) f).to u fs b y) (through_same f x l)
+      (subst (λ (k : ℕ). LedgerTrail (ledger_of v) k (ledger_carried (ledger_of v) (ledger_flow_at (ledger_of v) f).step x) fs b y) (end_same f l) trail.4) in (
         l,
         sym (ap (λ q. q.from) (flow_same f l)) ∙ trail.1,
         positive_some (through (graph_of v) f x) (subst (λ (k : ℕ). 0 < k) (through_same f x l) trail.2),
@@ -116,7 +115,7 @@ module _ (v : View) (s : Sound v) where
         trail_from fs (flow_at (graph_of v) f).to (through (graph_of v) f x) b y rest,
       )
 
-  marks_same : (n : ℕ) → n < v.node_count → (ledger-node-at (ledger_of v) n).marks ≡ (node_at (graph_of v) n).marks
+  marks_same : (n : ℕ) → n < v.node_count → (ledger_node_at (ledger_of v) n).marks ≡ (node_at (graph_of v) n).marks
   marks_same n l = ap (λ q. q.marks) (node_same n l)
 
   pub path_to : (fs : List ℕ) (b y : ℕ) → FlowPath (graph_of v) fs b y → IsFlowPath (ledger_of v) fs b y

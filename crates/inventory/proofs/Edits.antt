@@ -1,15 +1,14 @@
 -- What each call's checks and writes come to.
-use Rattle.std.proofs.Common.{◌≡◌, ℕ, ◌+◌, ◌-◌, ◌<◌, ◌≤◌, Bool, true, false, List, ◌++◌, length, get_or, set, replicate, Some, None, Ok, Err, Option, Result, sym, refl, ap, ◌∙◌, subst, arith}
+use Rattle.std.proofs.Common.{◌≡◌, ℕ, ◌+◌, ◌-◌, Bool, true, List, ◌++◌, length, get_or, set, replicate, Some, None, sym, refl, ap}
 use Rattle.flows.specs.declared.records.NodeRecord.{NodeRecord}
-use Rattle.flows.specs.declared.records.FlowRecord.{FlowRecord}
 use Rattle.ledger.specs.Run.{Answer, done, numbered, Given}
 use Rattle.lattice.specs.Sets.{with, without}
 use Rattle.ledger.specs.Ledger.{Call, enter, step, mark, unmark, verify, draw, strike, changing, flow_number}
-use Rattle.inventory.specs.View.{View, stored, Called, ledger_of, nodes_of, steps_of, flows_of, put_nodes, put_flows, put_steps, record_at, entered, remarked, reverified, without_flow}
-use Rattle.flows.specs.Graph.{no_node, no_flow}
+use Rattle.inventory.specs.View.{View, stored, Called, ledger_of, flows_of, put_nodes, put_flows, put_steps, record_at, entered, remarked, reverified, without_flow}
+use Rattle.flows.specs.Graph.{no_flow}
 use Rattle.inventory.specs.Sound.{Sound}
 use Rattle.inventory.specs.Checks.{refusal_of}
-use Rattle.inventory.proofs.Declines.{nodes_counted, steps_counted, enter_passed, step_passed, mark_passed, verify_passed, draw_passed}
+use Rattle.inventory.proofs.Declines.{nodes_counted, steps_counted}
 use Rattle.inventory.proofs.Outcomes.{accept, still_sound}
 
 -- an accepted call leaves the view w, sound, and answers a

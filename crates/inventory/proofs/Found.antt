@@ -1,12 +1,12 @@
 -- Where a flow stands in a list of flows.
-use Rattle.std.proofs.Common.{◌≡◌, ℕ, zero, suc, ◌<◌, ◌≤◌, Bool, true, false, cond, ◌&&◌, List, [], ◌∷◌, map, length, get_or, Some, None, Option, sym, refl, ap, ◌∙◌, ⊎_elim, arith}
+use Rattle.std.proofs.Common.{◌≡◌, ℕ, zero, suc, ◌<◌, Bool, true, false, List, [], ◌∷◌, map, length, get_or, Some, None, Option, sym, refl, ap, ◌∙◌, ⊎_elim, arith}
 use Rattle.std.proofs.lemmas.Bool.{cases_Bool, cond-true, cond-false, eq-eqb, and_from}
 use Rattle.std.proofs.lemmas.List.{get_or_default}
 use Rattle.flows.specs.declared.records.FlowRecord.{FlowRecord}
 use Rattle.inventory.specs.View.{flow_of}
 use Rattle.flows.specs.Graph.{no_flow}
 use Rattle.inventory.proofs.Lists.{get_or_of_map}
-use Rattle.ledger.specs.Ledger.{Flow, flow_number, same_flow, stands}
+use Rattle.ledger.specs.Ledger.{Flow, flow_number, same_flow}
 use Rattle.inventory.specs.View.{no_flow_yet}
 
 abbrev later : Option ℕ → Option ℕ

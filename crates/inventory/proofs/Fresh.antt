@@ -1,13 +1,13 @@
 -- A new inventory.
-use Rattle.std.proofs.Common.{◌≡◌, ℕ, zero, suc, ◌+◌, ◌-◌, ◌*◌, ◌/◌, ◌<◌, ◌≤◌, min, max, Bool, true, false, List, [], ◌∷◌, ◌++◌, length, get_or, take, set, replicate, sym, refl, ap, ◌∙◌, subst, arith, lit<}
+use Rattle.std.proofs.Common.{◌≡◌, ℕ, zero, suc, ◌-◌, ◌/◌, ◌<◌, min, true, List, [], ◌∷◌, ◌++◌, length, take, set, replicate, refl, ap, ◌∙◌, subst, arith, lit<}
 use Rattle.std.proofs.lemmas.List.{take_at}
 use Rattle.flows.specs.declared.records.NodeRecord.{NodeRecord}
 use Rattle.flows.specs.declared.records.FlowRecord.{FlowRecord}
 use Rattle.lattice.specs.declared.sizes.Sizes.{Sizes}
-use Rattle.ledger.specs.Ledger.{Ledger, fresh, counting, nearest_size, good_row}
+use Rattle.ledger.specs.Ledger.{fresh, counting, nearest_size, good_row}
 use Rattle.inventory.specs.View.{nearest_sizes}
-use Rattle.inventory.specs.View.{View, made_of, made_new, first_steps, ledger_of}
-use Rattle.inventory.specs.Sound.{Sound, GoodSize, GoodSizes, GoodRows, BoundedRows, SilentRows}
+use Rattle.inventory.specs.View.{made_of, made_new, first_steps, ledger_of}
+use Rattle.inventory.specs.Sound.{Sound, GoodSize, GoodRows, BoundedRows, SilentRows}
 use Rattle.inventory.proofs.RowLaws.{counting_good, length_counting, padded_bounded, padded_silent, zero_table}
 
 nearest_good : (n : ℕ) → GoodSize (nearest_size n)

@@ -1,19 +1,18 @@
 -- What judge and path answer is what the ledger asks, so what is promised of them holds.
-use Rattle.std.proofs.Common.{◌≡◌, ℕ, ◌+◌, ◌-◌, ◌^◌, ◌<◌, ◌≤◌, Bool, true, false, ◌&&◌, T, eqb, List, [], ◌∷◌, map, length, get_or, take, Some, None, Ok, Err, Option, Result, sym, refl, ap, ◌∙◌, subst, arith}
+use Rattle.std.proofs.Common.{◌≡◌, ℕ, ◌^◌, ◌<◌, Bool, true, [], ◌∷◌, get_or, take, None, Ok, Err, Option, Result, sym, refl, ap, ◌∙◌, subst, arith}
 use Rattle.std.proofs.lemmas.Bool.{and_parts, eqb-true}
 use Rattle.lattice.specs.declared.sizes.Sizes.{Sizes}
 use Rattle.policy.specs.declared.label.Label.{Label}
 use Rattle.lattice.specs.Schemes.{Scheme}
 use Rattle.policy.specs.Clauses.{allows, decider, evidence}
 use Rattle.lattice.specs.Schemes.{Lattices}
-use Rattle.policy.specs.Words.{in_range}
 use Rattle.policy.specs.Labels.{or_top, declared}
-use Rattle.ledger.specs.Ledger.{Ledger, Node, judge, path, label_at, same_sizes, good_row, node_at as ledger-node-at, flow_at as ledger-flow-at}
+use Rattle.ledger.specs.Ledger.{Node, judge, path, label_at, same_sizes, good_row}
 use Rattle.policy.specs.Policies.{Policy}
 use Rattle.refusals.specs.declared.refusal.Refusal.{Refusal}
 use Rattle.lattice.specs.Schemes.{scheme_sizes}
-use Rattle.ledger.specs.Run.{Answer, Answered, judged, LabelOf}
-use Rattle.ledger.specs.Sound.{Sound as Ledger-sound, GoodNode as Ledger-good-node}
+use Rattle.ledger.specs.Run.{Answer, Answered, judged}
+use Rattle.ledger.specs.Sound.{Sound as LedgerSound, GoodNode as LedgerGoodNode}
 use Rattle.ledger.proofs.Follows.{path_shown}
 use Rattle.ledger.proofs.Promises.{runs_keep_the_promise}
 use Rattle.lattice.specs.Tests.{from_true}
@@ -21,9 +20,7 @@ use Rattle.policy.specs.declared.policy.judging.Verdict.{Verdict}
 use Rattle.refusals.specs.declared.refusal.Refusal.{Refusal}
 use Rattle.inventory.specs.Answers.{judged_answer}
 use Rattle.inventory.specs.Promised.{Promised, PathPromised}
-use Rattle.inventory.specs.View.{View, ledger_of, record_at, held_at, nodes_of, steps_of, flows_of, node_of}
-use Rattle.inventory.specs.View.{graph_of}
-use Rattle.flows.specs.Graph.{flow_at}
+use Rattle.inventory.specs.View.{View, ledger_of, record_at, held_at, steps_of}
 use Rattle.inventory.specs.Sound.{Sound}
 use Rattle.inventory.specs.Checks.{refusal_of, judge_refusal}
 use Rattle.inventory.proofs.Lists.{read_at}
@@ -44,14 +41,14 @@ same_sizes_equal a b e =
     }
 
 module _ (v : View) (s : Sound v) where
-  pub ledger_sound : Ledger-sound (ledger_of v)
+  pub ledger_sound : LedgerSound (ledger_of v)
   unfolding ledger_of
   ledger_sound = record {
     sizes = record { store = s.sized.0; purpose = s.sized.1; role = s.sized.2; types = s.sized.3 };
     nodes = λ n l.
         let below : n < v.node_count = omega (arith, l, nodes_counted v s) in
         let g = s.nodes_good n below in
-        subst (Ledger-good-node v.sizes) (sym (node_same v s n below))
+        subst (LedgerGoodNode v.sizes) (sym (node_same v s n below))
         (record { store = from_true _ g.0; purpose = from_true _ g.1; role = from_true _ g.2; marks = from_true _ g.3 });
     steps = λ t l.
         let below : t < v.step_count = omega (arith, l, steps_counted v s) in

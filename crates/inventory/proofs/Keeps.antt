@@ -1,20 +1,16 @@
 -- An accepted call keeps the invariant.
-use Rattle.std.proofs.Common.{◌≡◌, ℕ, suc, ◌+◌, ◌-◌, ◌*◌, ◌<◌, ◌≤◌, Bool, true, false, cond, not, ◌&&◌, eqb, ltb, ◌≢◌, List, [], ◌∷◌, ◌++◌, length, get_or, take, set, replicate, Some, None, Option, sym, refl, ap, ◌∙◌, subst, ⊎_elim, arith}
+use Rattle.std.proofs.Common.{◌≡◌, ℕ, ◌+◌, ◌-◌, ◌<◌, ◌≤◌, Bool, true, false, List, [], ◌++◌, length, get_or, take, set, replicate, Some, None, Option, sym, refl, ap, ◌∙◌, ⊎_elim, arith}
 use Rattle.std.proofs.lemmas.List.{length-set, get_or-set_same, get_or-set_other, take_at}
-use Rattle.std.proofs.lemmas.Bool.{cases_eq, and_parts, eqb-true, ltb-true, both_ways, not-true}
+use Rattle.std.proofs.lemmas.Bool.{cases_eq, both_ways}
 use Rattle.flows.specs.declared.records.NodeRecord.{NodeRecord}
 use Rattle.flows.specs.declared.records.FlowRecord.{FlowRecord}
-use Rattle.refusals.specs.declared.refusal.Reason.{Reason}
-use Rattle.refusals.specs.declared.refusal.Reason.TheVariants.{NoNode, NoStep, BadArgument, FlowStands, NoFlow, NoRoom, Unsettled, SizesDiffer}
-use Rattle.lattice.specs.Sets.{with, without, every}
-use Rattle.policy.specs.Words.{in_range}
-use Rattle.ledger.specs.Ledger.{Flow, Call, enter, step, mark, unmark, verify, draw, strike, settle, judge, path, unless, good_row, good_value, stands, flow_number, same_flow}
-use Rattle.lattice.specs.Faults.{or_else}
+use Rattle.lattice.specs.Sets.{with, without}
+use Rattle.ledger.specs.Ledger.{Call, enter, step, mark, unmark, verify, draw, strike, settle, judge, path, good_row, stands, flow_number, same_flow}
 use Rattle.inventory.specs.View.{no_flow_yet}
 use Rattle.inventory.specs.View.{View, stored, put_nodes, put_flows, put_steps, record_at, entered, remarked, reverified, without_flow, flows_of, flow_of}
 use Rattle.flows.specs.Graph.{no_node, no_flow}
-use Rattle.inventory.specs.Sound.{Sound, GoodNode, GoodFlow, GoodNodes, GoodFlows, Apart}
-use Rattle.inventory.specs.Checks.{refusal_of, ends_there}
+use Rattle.inventory.specs.Sound.{Sound, GoodNode, GoodFlow, Apart}
+use Rattle.inventory.specs.Checks.{refusal_of}
 use Rattle.inventory.proofs.Bits.{in_with, in_without, in_empty}
 use Rattle.inventory.proofs.RowLaws.{padded_bounded, padded_silent}
 use Rattle.inventory.proofs.Lists.{put_each, read_at}

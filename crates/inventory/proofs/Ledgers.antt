@@ -1,16 +1,15 @@
 -- What an accepted call writes is what the ledger takes down.
-use Rattle.std.proofs.Common.{◌≡◌, ℕ, suc, ◌+◌, ◌-◌, ◌*◌, ◌<◌, ◌≤◌, Bool, true, false, cond, not, ◌&&◌, eqb, ltb, List, [], ◌∷◌, ◌++◌, map, length, get_or, take, set, replicate, Some, None, Option, sym, refl, ap, ◌∙◌, subst, ⊎_elim, arith}
+use Rattle.std.proofs.Common.{◌≡◌, ℕ, ◌-◌, ◌<◌, true, false, [], ◌∷◌, ◌++◌, map, length, get_or, take, set, replicate, Some, None, Option, sym, refl, ap, ◌∙◌, arith}
 use Rattle.std.proofs.lemmas.List.{take_at, take-take}
-use Rattle.std.proofs.lemmas.Bool.{and_parts, eqb-true, ltb-true, both_ways}
+use Rattle.std.proofs.lemmas.Bool.{both_ways}
 use Rattle.flows.specs.declared.records.NodeRecord.{NodeRecord}
-use Rattle.flows.specs.declared.records.FlowRecord.{FlowRecord}
 use Rattle.lattice.specs.Sets.{with, without}
-use Rattle.ledger.specs.Ledger.{Node, Flow, Call, enter, step, mark, unmark, verify, draw, strike, settle, judge, path, changing, Ledger, accepted, flow_number, with_nodes, with_flows, with_marks, with_verified, struck, struck_at, no_node_yet}
+use Rattle.ledger.specs.Ledger.{Node, Call, enter, step, mark, unmark, verify, draw, strike, settle, judge, path, changing, accepted, flow_number, with_nodes, with_flows, with_marks, with_verified, struck_at, no_node_yet}
 use Rattle.inventory.specs.View.{with_steps, no_flow_yet}
-use Rattle.inventory.specs.View.{View, stored, ledger_of, nodes_of, flows_of, steps_of, node_of, flow_of, put_nodes, put_flows, put_steps, record_at, entered, remarked, reverified, without_flow}
+use Rattle.inventory.specs.View.{View, stored, ledger_of, nodes_of, flows_of, steps_of, node_of, flow_of, record_at, entered, remarked, reverified, without_flow}
 use Rattle.flows.specs.Graph.{no_node, no_flow}
 use Rattle.inventory.specs.Sound.{Sound}
-use Rattle.inventory.specs.Checks.{refusal_of, ends_there}
+use Rattle.inventory.specs.Checks.{refusal_of}
 use Rattle.inventory.proofs.Lists.{read_put, read_at, read_more, map_of_take}
 use Rattle.inventory.proofs.Found.{found_within}
 use Rattle.inventory.proofs.Declines.{flows_counted, enter_passed, step_passed, mark_passed, verify_passed, draw_passed}

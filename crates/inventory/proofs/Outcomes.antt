@@ -1,7 +1,7 @@
 -- From a call's checks and writes to what it promises.
-use Rattle.std.proofs.Common.{◌≡◌, true, IsErrAnd, Some, None, Ok, Err, Option, Result, sym, refl, ap, ◌∙◌, subst}
+use Rattle.std.proofs.Common.{◌≡◌, true, IsErrAnd, Some, None, Err, Option, Result, sym, ap, ◌∙◌, subst}
 use Rattle.std.proofs.lemmas.Result.{err_from_is_err_and}
-use Rattle.ledger.specs.Ledger.{Ledger, Call, declined, accepted, after, changing}
+use Rattle.ledger.specs.Ledger.{Ledger, Call, declined, accepted, changing}
 use Rattle.refusals.specs.declared.refusal.Refusal.{Refusal}
 use Rattle.ledger.specs.Run.{Answer, refused, Given, Answered}
 use Rattle.refusals.specs.declared.refusal.Refusal.{Refusal}
@@ -30,44 +30,35 @@ sound s = record {
 }
 
 -- the ghost fields, as a check asks for them
-pub parts : (v : View) → Sound v
-    → GoodSizes v.sizes
-    × (NodeRoom v.nodes v.workspace v.node_count v.node_room
-    × (FlowRoom v.flows v.flow_count v.flow_room
-    × (StepRoom v.steps v.step_count
-    × (GoodNodes v.sizes v.nodes v.node_count
-    × (GoodFlows v.node_count v.step_count v.flows v.flow_count
-    × (Apart v.flows v.flow_count
-    × (GoodRows v.sizes.types v.steps v.step_count
-    × (BoundedRows v.sizes.types v.steps
-    × (SilentRows v.sizes.types v.steps
-    × (SettledLabels v.nodes v.flows v.steps v.workspace v.node_count v.flow_count v.settled
-    × Unit {0}))))))))))
-parts v s = (
-  s.sized,
-  (
-    s.node_fits,
-    (
-      s.flow_fits,
-      (
-        s.step_fits,
-        (
-          s.nodes_good,
-          (
-            s.flows_good,
-            (
-              s.flows_apart,
-              (
-                s.rows_good,
-                (s.rows_bounded, (s.rows_silent, (s.labels_settled, tt))),
-              ),
-            ),
-          ),
-        ),
-      ),
-    ),
-  ),
-)
+abbrev pub Parts : View → Type 0
+Parts v = record {
+  sized : GoodSizes v.sizes;
+  node_fits : NodeRoom v.nodes v.workspace v.node_count v.node_room;
+  flow_fits : FlowRoom v.flows v.flow_count v.flow_room;
+  step_fits : StepRoom v.steps v.step_count;
+  nodes_good : GoodNodes v.sizes v.nodes v.node_count;
+  flows_good : GoodFlows v.node_count v.step_count v.flows v.flow_count;
+  flows_apart : Apart v.flows v.flow_count;
+  rows_good : GoodRows v.sizes.types v.steps v.step_count;
+  rows_bounded : BoundedRows v.sizes.types v.steps;
+  rows_silent : SilentRows v.sizes.types v.steps;
+  labels_settled : SettledLabels v.nodes v.flows v.steps v.workspace v.node_count v.flow_count v.settled;
+}
+
+pub parts : (v : View) → Sound v → Parts v
+parts v s = record {
+  sized = s.sized;
+  node_fits = s.node_fits;
+  flow_fits = s.flow_fits;
+  step_fits = s.step_fits;
+  nodes_good = s.nodes_good;
+  flows_good = s.flows_good;
+  flows_apart = s.flows_apart;
+  rows_good = s.rows_good;
+  rows_bounded = s.rows_bounded;
+  rows_silent = s.rows_silent;
+  labels_settled = s.labels_settled;
+}
 
 -- what the ledger asks of an answer, by why the call is declined
 abbrev AnsweredBy : Ledger → Call → Answer → Option Refusal → Type 0

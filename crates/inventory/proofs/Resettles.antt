@@ -1,10 +1,9 @@
 -- What settle leaves behind.
-use Rattle.std.proofs.Common.{◌≡◌, ℕ, zero, suc, ◌*◌, ◌%◌, ◌^◌, ◌<◌, ◌≤◌, Bool, true, false, ◌&&◌, eqb, ltb, List, [], ◌∷◌, map, length, get_or, take, sym, refl, ap, ◌∙◌, subst, arith, pow_mono}
-use Rattle.std.proofs.lemmas.Bool.{and_parts, ltb-true}
+use Rattle.std.proofs.Common.{◌≡◌, ℕ, zero, suc, ◌^◌, ◌<◌, ◌≤◌, true, List, [], ◌∷◌, map, length, get_or, take, sym, refl, ap, ◌∙◌, subst, arith}
 use Rattle.policy.specs.Words.{in_range}
-use Rattle.ledger.specs.Ledger.{Ledger, Node, settle, after, accepted}
+use Rattle.ledger.specs.Ledger.{settle, after}
 use Rattle.flows.specs.declared.records.NodeRecord.{NodeRecord}
-use Rattle.inventory.specs.View.{View, made_of, ledger_of, node_of, nodes_of}
+use Rattle.inventory.specs.View.{View, made_of, ledger_of, node_of}
 use Rattle.flows.specs.Graph.{no_node}
 use Rattle.flows.specs.Graph.{graph}
 use Rattle.inventory.specs.View.{graph_of}

@@ -1,5 +1,5 @@
 -- Why a call is declined, by the counts of a view. The proofs show that this is what the ledger says.
-use Rattle.std.specs.Prelude.{ℕ, Bool, not, ◌&&◌, Some, None, Option, nat_lt}
+use Rattle.std.specs.Prelude.{ℕ, not, ◌&&◌, None, Option, nat_lt}
 use Rattle.refusals.specs.declared.refusal.Reason.TheVariants.{NoNode, NoStep, BadArgument, FlowStands, NoFlow, NoRoom, Unsettled, SizesDiffer}
 use Rattle.policy.specs.Words.{in_range}
 use Rattle.lattice.specs.declared.sizes.Sizes.{Sizes}

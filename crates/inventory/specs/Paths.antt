@@ -1,11 +1,10 @@
 -- What path answers, as a function of the memory.
-use Rattle.std.specs.Prelude.{ℕ, zero, suc, ◌+◌, ◌*◌, ◌/◌, ◌%◌, Bool, cond, List, [], ◌∷◌, ◌++◌, length, Some, None, Option, nat_lt}
+use Rattle.std.specs.Prelude.{ℕ, cond, Some, None, nat_lt}
 use Rattle.lattice.specs.Sets.{has}
 use Rattle.refusals.specs.declared.refusal.Reason.TheVariants.{NotInLabel, ShortPiece}
 use Rattle.ledger.specs.Ledger.{path}
 use Rattle.ledger.specs.Run.{Answer, refused, shown}
 use Rattle.inventory.specs.View.{View, record_at}
-use Rattle.flows.specs.Graph.{no_flow}
 use Rattle.flows.specs.Certificate.{distance}
 use Rattle.flows.specs.Paths.{hops}
 use Rattle.inventory.specs.Checks.{refusal_of}

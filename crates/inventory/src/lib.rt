@@ -1,4 +1,6 @@
 //! A data-flow inventory: nodes, steps and the flows between nodes, in memory that the caller lends.
+#![tactic(auto)]
+
 mod finding;
 pub mod inventory;
 mod nodes;

@@ -1,7 +1,7 @@
 -- How far a text begins with bytes that pass a test.
 use Rattle.std.proofs.Common.{◌≡◌, ℕ, suc, Bool, true, false, eqb, ltb, List, [], ◌∷◌, length, take, drop, refl, inl, inr, one-add, arith}
 use lib.Dec.{eqb-suc-suc, eqb-zero-suc}
-use Rattle.std.specs.List.{prefix_len, AllByRecursion as All}
+use Rattle.std.specs.List.{prefix_len, AllByRecursion}
 use Rattle.std.proofs.lemmas.Bool.{cases_Bool, eqb-false, lt-ltb}
 use Rattle.lexer.specs.Classes.{every, one_or_more}
 
@@ -21,7 +21,7 @@ unfolding front
 front_goes p b bs e = simp (e, one-add)
 
 -- every byte of the front passes
-pub front_passes : (p : ℕ → Bool) (bs : List ℕ) → All (λ b. p b ≡ true) (take (front p bs) bs)
+pub front_passes : (p : ℕ → Bool) (bs : List ℕ) → AllByRecursion (λ b. p b ≡ true) (take (front p bs) bs)
 front_passes p [] = rw front_none tt
 front_passes p (b ∷ bs) =
     elim (cases_Bool (p b)) [

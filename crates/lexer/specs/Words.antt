@@ -1,6 +1,6 @@
 -- The words of a line: words_of, IsWord.
 use Rattle.std.specs.Prelude.{ℕ, ◌<◌, Bool, false, cond, ◌≢◌, List, [], ◌∷◌, length, ◌==◌}
-use Rattle.std.specs.List.{AllByRecursion as All}
+use Rattle.std.specs.List.{AllByRecursion}
 use Rattle.lexer.specs.Classes.{in_word}
 use Rattle.lexer.specs.Lines.{onto}
 
@@ -17,4 +17,4 @@ words_of (b ∷ bs) =
 
 -- not empty, and without space, tab, carriage return and '#'
 abbrev pub IsWord : List ℕ → Type 0
-IsWord word = (0 < length word) × All (λ b. (b ≢ 32) × (b ≢ 9) × (b ≢ 13) × (b ≢ 35)) word
+IsWord word = (0 < length word) × AllByRecursion (λ b. (b ≢ 32) × (b ≢ 9) × (b ≢ 13) × (b ≢ 35)) word

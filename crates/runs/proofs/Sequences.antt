@@ -1,19 +1,19 @@
 -- Whole runs: one call after another, and what they come to.
 use mathlib.Core.Option.{Option as Lookup, none, some}
-use Rattle.std.proofs.Common.{◌≡◌, ℕ, zero, suc, ◌+◌, ◌<◌, ◌≤◌, min, List, [], ◌∷◌, ◌++◌, length, get_or, take, is_some, Some, None, Ok, Err, Option, Result, sym, refl, ap, ◌∙◌, subst, arith}
+use Rattle.std.proofs.Common.{◌≡◌, ℕ, zero, suc, ◌+◌, ◌<◌, ◌≤◌, min, List, [], ◌∷◌, ◌++◌, length, get_or, take, is_some, Some, None, Option, sym, refl, ap, ◌∙◌, subst, arith}
 use lib.ListN.{get_elem?}
 use Rattle.std.proofs.lemmas.List.{take_more}
 use Rattle.lattice.specs.Schemes.{Scheme, Lattices}
 use Rattle.refusals.specs.declared.refusal.Refusal.{Refusal}
 use Rattle.policy.specs.Policies.{Policy, policy_of}
 use Rattle.policy.specs.declared.policy.Policy.{Policy as Held}
-use Rattle.ledger.specs.Ledger.{Ledger, Call as Ledger-call, enter, step, mark, unmark, verify, draw, strike, settle, judge, path, declined, after}
-use Rattle.ledger.specs.Run.{Answer as Ledger-answer, Answered, Event, EveryCallAnswered}
+use Rattle.ledger.specs.Ledger.{Ledger, Call as LedgerCall, enter, step, mark, unmark, verify, draw, strike, settle, judge, path, declined, after}
+use Rattle.ledger.specs.Run.{Event, EveryCallAnswered}
 use Rattle.ledger.specs.Sound.{LatticesBrought, EveryCallBringsLattices}
 use Rattle.runs.specs.declared.calls.Call.{Call}
 use Rattle.runs.specs.declared.calls.Call.TheVariants.{Enter, Step, Mark, Unmark, Verify, Draw, Strike, Settle, Judge, Path}
 use Rattle.runs.specs.declared.calls.Answer.{Answer}
-use Rattle.runs.specs.Calls.{answer_of, Made, One, judged_by, named, event, events, Matched, DoneBy}
+use Rattle.runs.specs.Calls.{One, judged_by, named, event, events, Matched, DoneBy}
 use Rattle.inventory.specs.View.{View, ledger_of}
 use Rattle.inventory.proofs.Bridge.{take_none}
 
@@ -48,7 +48,7 @@ pub path_kept : (L : Ledger) (n x room : ℕ) → L ≡ after L (path n x room)
 path_kept L n x room = kept_by L (declined L (path n x room))
 
 module _ {V : Type 0} (orders : V → Scheme) (schemes : List V) (policies : List Held) where
-  by_scheme : ℕ → ℕ → Lookup V → Option Ledger-call
+  by_scheme : ℕ → ℕ → Lookup V → Option LedgerCall
   by_scheme n p o =
       elim o [
         | none ↦ None
@@ -68,7 +68,7 @@ module _ {V : Type 0} (orders : V → Scheme) (schemes : List V) (policies : Lis
   pub judged_without : (n s p : ℕ) → get_elem? policies p ≡ none → judged_by orders schemes policies n s p ≡ None
   judged_without n s p e = go (get_elem? schemes s)
     where
-      go : (o : Lookup V) → ◌≡◌ {A = Option Ledger-call} (elim o [
+      go : (o : Lookup V) → ◌≡◌ {A = Option LedgerCall} (elim o [
         | none ↦ None
         | some z ↦ elim (get_elem? policies p) [ none ↦ None | some q ↦ Some (judge n (orders z) (policy_of q)) ]
       ]) None
@@ -92,7 +92,7 @@ module _ {V : Type 0} (orders : V → Scheme) (schemes : List V) (policies : Lis
       subst (λ (ds : List Call). DoneBy orders schemes policies v ds next w) (sym (take_more cs i d l ∙ ap (λ x. take i cs ++ (x ∷ [])) (sym e)))
       (subst (λ (l : List (Option Answer)). DoneBy orders schemes policies v (take i cs ++ (c ∷ [])) l w) (sym is) (done_more v (take i cs) bs u w c a before one))
 
-  one_matched : (v u : View) (o : Option Ledger-call) (a : Option Answer) → One v u o a → is_some a ≡ is_some o
+  one_matched : (v u : View) (o : Option LedgerCall) (a : Option Answer) → One v u o a → is_some a ≡ is_some o
   one_matched v u None None one = refl
   one_matched v u None (Some a) one = absurd one
   one_matched v u (Some c) None one = absurd one
@@ -104,7 +104,7 @@ module _ {V : Type 0} (orders : V → Scheme) (schemes : List V) (policies : Lis
   done_matched v w (c ∷ cs) [] all = absurd all
   done_matched v w (c ∷ cs) (a ∷ bs) (u, one, rest) = (one_matched v u (named orders schemes policies c) a one, done_matched u w cs bs rest)
 
-  one_answered : (v u : View) (o : Option Ledger-call) (a : Option Answer) (rest : List Event) → One v u o a → EveryCallAnswered (ledger_of u) rest →
+  one_answered : (v u : View) (o : Option LedgerCall) (a : Option Answer) (rest : List Event) → One v u o a → EveryCallAnswered (ledger_of u) rest →
       EveryCallAnswered (ledger_of v) (event orders schemes policies o a rest)
   one_answered v u None None rest one later = subst (λ (x : View). EveryCallAnswered (ledger_of x) rest) one later
   one_answered v u None (Some a) rest one later = absurd one
@@ -121,24 +121,24 @@ module _ {V : Type 0} (orders : V → Scheme) (schemes : List V) (policies : Lis
   -- ---- the lattices that calls bring
 
   module _ (laws : (z : V) → Lattices (orders z)) where
-    judged_brings : (n s p : ℕ) (c : Ledger-call) → judged_by orders schemes policies n s p ≡ Some c → LatticesBrought c
+    judged_brings : (n s p : ℕ) (c : LedgerCall) → judged_by orders schemes policies n s p ≡ Some c → LatticesBrought c
     judged_brings n s p c e = go (get_elem? schemes s) e
       where
-        inner : (z : V) (o : Lookup Held) → ◌≡◌ {A = Option Ledger-call} (elim o [ none ↦ None | some q ↦ Some (judge n (orders z) (policy_of q)) ]) (Some c) → LatticesBrought c
+        inner : (z : V) (o : Lookup Held) → ◌≡◌ {A = Option LedgerCall} (elim o [ none ↦ None | some q ↦ Some (judge n (orders z) (policy_of q)) ]) (Some c) → LatticesBrought c
         inner z none e = let bad : ◌≡◌ {A = ℕ} 0 1 = cc in absurd (omega arith)
         inner z (some q) e = let same : judge n (orders z) (policy_of q) ≡ c = cc in subst LatticesBrought same (laws z)
 
-        go : (o : Lookup V) → ◌≡◌ {A = Option Ledger-call} (elim o [
+        go : (o : Lookup V) → ◌≡◌ {A = Option LedgerCall} (elim o [
           | none ↦ None
           | some z ↦ elim (get_elem? policies p) [ none ↦ None | some q ↦ Some (judge n (orders z) (policy_of q)) ]
         ]) (Some c) → LatticesBrought c
         go none e = let bad : ◌≡◌ {A = ℕ} 0 1 = cc in absurd (omega arith)
         go (some z) e = inner z (get_elem? policies p) e
 
-    brought_by : (d c : Ledger-call) → ◌≡◌ {A = Option Ledger-call} (Some d) (Some c) → LatticesBrought d → LatticesBrought c
+    brought_by : (d c : LedgerCall) → ◌≡◌ {A = Option LedgerCall} (Some d) (Some c) → LatticesBrought d → LatticesBrought c
     brought_by d c e h = let same : d ≡ c = cc in subst LatticesBrought same h
 
-    brings : (call : Call) (o : Option Ledger-call) → named orders schemes policies call ≡ o → (a : Option Answer) (rest : List Event) →
+    brings : (call : Call) (o : Option LedgerCall) → named orders schemes policies call ≡ o → (a : Option Answer) (rest : List Event) →
         EveryCallBringsLattices rest → EveryCallBringsLattices (event orders schemes policies o a rest)
     brings call None e a rest later = later
     brings call (Some c) e None rest later = later

@@ -1,4 +1,6 @@
 //! Whole runs of the inventory: calls and answers that hold no reference, and one function that makes every call in turn.
+#![tactic(auto)]
+
 pub mod calls;
 pub mod sequence;
 

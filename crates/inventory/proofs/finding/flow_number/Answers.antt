@@ -1,4 +1,4 @@
-use Rattle.std.proofs.Common.{◌≡◌, ◌<◌, true, false, map, length, sym, ap, ◌∙◌, arith, below_more}
+use Rattle.std.proofs.Common.{true, false, map, sym, arith, below_more}
 use Rattle.std.proofs.lemmas.List.{length-map}
 use Rattle.inventory.specs.View.{flow_of}
 use Rattle.inventory.proofs.Found.{same_at, same_first, same_none}

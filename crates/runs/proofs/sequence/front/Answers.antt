@@ -1,4 +1,4 @@
-use Rattle.std.proofs.Common.{◌≡◌, ℕ, ◌-◌, min, length, arith, rules}
+use Rattle.std.proofs.Common.{◌≡◌, ◌-◌, length, arith, rules}
 use Rattle.runs.proofs.Sequences.{take_capped}
 use Rattle.runs.proofs.sequence.front.Goals as goal
 

@@ -1,6 +1,6 @@
 use Rattle.std.proofs.Common.{Some, None, Option, sym, refl, subst, arith}
 use Rattle.ledger.specs.Ledger.{Call, judge}
-use Rattle.ledger.specs.Run.{Answer, Answered}
+use Rattle.ledger.specs.Run.{Answered}
 use Rattle.policy.specs.Policies.{policy_of}
 use Rattle.runs.specs.Calls.{One}
 use Rattle.inventory.specs.Inventories.{view}

@@ -1,6 +1,6 @@
-use Rattle.std.proofs.Common.{◌≡◌, List, [], length, take, vec_items, Option, sym, refl, ap, ◌∙◌, subst, arith, rules}
+use Rattle.std.proofs.Common.{List, [], length, vec_items, Option, sym, refl, ◌∙◌, subst, rules}
 use Rattle.std.proofs.lemmas.List.{take_all}
-use Rattle.ledger.specs.Ledger.{Ledger, fresh}
+use Rattle.ledger.specs.Ledger.{Ledger}
 use Rattle.ledger.specs.Run.{EveryCallAnswered}
 use Rattle.ledger.proofs.Promises.{fresh_runs_keep_the_promise}
 use Rattle.runs.specs.declared.calls.Answer.{Answer}
@@ -8,7 +8,7 @@ use Rattle.runs.specs.declared.calls.Call.{Call}
 use Rattle.runs.specs.declared.calls.Call.TheVariants.{Enter}
 use Rattle.runs.specs.Calls.{DoneBy, events}
 use Rattle.inventory.specs.Inventories.{view}
-use Rattle.inventory.specs.View.{View, ledger_of}
+use Rattle.inventory.specs.View.{View}
 use Rattle.runs.proofs.Sequences.{done_next, done_matched, done_answered, all_bring}
 use Rattle.runs.proofs.sequence.run.Goals as goal
 
@@ -23,12 +23,12 @@ loop-call-init g c =
 
 pub loop-call-preserved : goal.loop-call-preserved
 loop-call-preserved g c =
-    let one = c.in-ok-answer.ensures in (
+    let one = c.in_ok-answer.ensures in (
       done_next g.V.Vocabulary.orders c.args.schemes.now c.args.policies.now _ _ _ c.args.calls.now c.loop-call.call-index _ (Enter 0 0 0) _ _ _
-          c.loop-call-test.true refl c.in-ok-push.ensures.items c.loop-call.invariant.0 one.one,
-      one.nodes-lent ∙ c.loop-call.invariant.1,
-      one.flows-lent ∙ c.loop-call.invariant.2,
-      one.workspace-lent ∙ c.loop-call.invariant.3,
+          c.loop-call-test.true refl c.in_ok-push.ensures.items c.loop-call.invariant.0 one.one,
+      one.nodes_lent ∙ c.loop-call.invariant.1,
+      one.flows_lent ∙ c.loop-call.invariant.2,
+      one.workspace_lent ∙ c.loop-call.invariant.3,
     )
 
 pub returns : goal.returns

@@ -1,4 +1,4 @@
-use Rattle.std.proofs.Common.{◌≡◌, ◌<◌, Some, sym, ◌∙◌, arith, rules}
+use Rattle.std.proofs.Common.{◌≡◌, ◌<◌, Some, sym, arith, rules}
 use Rattle.ledger.specs.Ledger.{flow_number}
 use Rattle.inventory.specs.View.{flows_of}
 use Rattle.inventory.specs.Inventories.{view}

@@ -7,22 +7,22 @@ use Rattle.inventory.proofs.Edits.{entered_kept}
 use Rattle.inventory.proofs.Outcomes.{sound, parts, exit}
 use Rattle.inventory.proofs.inventory.Inventory.enter.Goals as goal
 
-pub returns-in-err-check-enter : goal.returns-in-err-check-enter
-returns-in-err-check-enter c = record {
+pub returns-in_err-check_enter : goal.returns-in_err-check_enter
+returns-in_err-check_enter c = record {
   called = exit (view c.args.self.now) (sound c.args.self.now) (enter c.args.store c.args.purpose c.args.role) number_answer (λ e. refl)
-      c.in-err-check-enter.field-0.0 c.from-residual.result c.in-err-check-enter.ensures c.from-residual.ensures.1;
-  nodes-lent = refl;
-  flows-lent = refl;
-  workspace-lent = refl;
+      c.in_err-check_enter.field-0.0 c.from_residual.result c.in_err-check_enter.ensures c.from_residual.ensures.1;
+  nodes_lent = refl;
+  flows_lent = refl;
+  workspace_lent = refl;
 }
 
-pub invariant-of-self : goal.invariant-of-self
-invariant-of-self c = parts _ (entered_kept (view c.args.self.now) (sound c.args.self.now) c.args.store c.args.purpose c.args.role c.in-ok-check-enter.ensures).0
+pub invariant_of-self : goal.invariant_of-self
+invariant_of-self c = parts _ (entered_kept (view c.args.self.now) (sound c.args.self.now) c.args.store c.args.purpose c.args.role c.in_ok-check_enter.ensures).0
 
 pub returns : goal.returns
 returns c = record {
-  called = (entered_kept (view c.args.self.now) (sound c.args.self.now) c.args.store c.args.purpose c.args.role c.in-ok-check-enter.ensures).1;
-  nodes-lent = refl;
-  flows-lent = refl;
-  workspace-lent = refl;
+  called = (entered_kept (view c.args.self.now) (sound c.args.self.now) c.args.store c.args.purpose c.args.role c.in_ok-check_enter.ensures).1;
+  nodes_lent = refl;
+  flows_lent = refl;
+  workspace_lent = refl;
 }

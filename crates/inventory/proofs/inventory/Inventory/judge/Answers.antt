@@ -1,4 +1,4 @@
-use Rattle.std.proofs.Common.{◌≡◌, Some, None, Ok, Err, sym, ap, ◌∙◌}
+use Rattle.std.proofs.Common.{◌≡◌, Some, None, Ok, Err, ap, ◌∙◌}
 use Rattle.std.proofs.lemmas.Result.{err_from_is_err_and}
 use Rattle.lattice.specs.Schemes.{Scheme, scheme_sizes}
 use Rattle.policy.specs.Labels.{declared}
@@ -17,20 +17,20 @@ held-requires g c =
     let z : Scheme = g.V.Vocabulary.orders c.args.scheme.now in
     let q = policy_of c.args.policy.now in
     (judge_passed v c.args.node z q
-    (judge_asked v (sound c.args.self.now) c.args.node z q _ _ None c.sizes.ensures c.sizes-2.ensures c.in-ok-check-judge.ensures)).0
+    (judge_asked v (sound c.args.self.now) c.args.node z q _ _ None c.sizes.ensures c.sizes-2.ensures c.in_ok-check_judge.ensures)).0
 
-pub returns-in-err-check-judge : goal.returns-in-err-check-judge
-returns-in-err-check-judge g c =
+pub returns-in_err-check_judge : goal.returns-in_err-check_judge
+returns-in_err-check_judge g c =
     let v = view c.args.self.now in
     let s = sound c.args.self.now in
-    let e = c.in-err-check-judge.field-0.0 in
-    let p = err_from_is_err_and c.from-residual.result c.from-residual.ensures.1 in
-    let is : c.from-residual.result ≡ Err e = p.1 ∙ ap Err p.2 in
+    let e = c.in_err-check_judge.field-0.0 in
+    let p = err_from_is_err_and c.from_residual.result c.from_residual.ensures.1 in
+    let is : c.from_residual.result ≡ Err e = p.1 ∙ ap Err p.2 in
     let z : Scheme = g.V.Vocabulary.orders c.args.scheme.now in
     let q = policy_of c.args.policy.now in
-    let h = judge_asked v s c.args.node z q _ _ (Some e) c.sizes.ensures c.sizes-2.ensures c.in-err-check-judge.ensures in
-    let answered = refused_answer v s (judge c.args.node z q) (judged_answer c.from-residual.result) e h (ap judged_answer is) in
-    record { answered = answered; promised = judge_promised v s c.args.node z q (g.met.V.Vocabulary.lawful c.args.scheme.now) c.from-residual.result answered }
+    let h = judge_asked v s c.args.node z q _ _ (Some e) c.sizes.ensures c.sizes-2.ensures c.in_err-check_judge.ensures in
+    let answered = refused_answer v s (judge c.args.node z q) (judged_answer c.from_residual.result) e h (ap judged_answer is) in
+    record { answered = answered; promised = judge_promised v s c.args.node z q (g.met.V.Vocabulary.lawful c.args.scheme.now) c.from_residual.result answered }
 
 pub returns : goal.returns
 returns g c =
@@ -38,7 +38,7 @@ returns g c =
     let s = sound c.args.self.now in
     let z : Scheme = g.V.Vocabulary.orders c.args.scheme.now in
     let q = policy_of c.args.policy.now in
-    let h = judge_asked v s c.args.node z q _ _ None c.sizes.ensures c.sizes-2.ensures c.in-ok-check-judge.ensures in
+    let h = judge_asked v s c.args.node z q _ _ None c.sizes.ensures c.sizes-2.ensures c.in_ok-check_judge.ensures in
     let ok = judge_passed v c.args.node z q h in
     let label = c.declared-label.ensures ∙ ap (declared (scheme_sizes z)) c.held.ensures.label
     ∙ held_label v s c.args.node ok.0 (scheme_sizes z) (same_sizes_equal (scheme_sizes z) v.sizes ok.2) in

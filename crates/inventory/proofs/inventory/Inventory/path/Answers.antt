@@ -1,4 +1,4 @@
-use Rattle.std.proofs.Common.{◌≡◌, ℕ, ◌<◌, ◌≤◌, Bool, true, false, List, length, drop, Ok, Err, Result, sym, refl, ap, ◌∙◌, subst, inl, inr, MatchResult}
+use Rattle.std.proofs.Common.{◌≡◌, ℕ, ◌<◌, ◌≤◌, Bool, true, false, List, length, drop, Err, Result, sym, refl, ap, ◌∙◌, subst, inl, inr, MatchResult}
 use Rattle.std.proofs.lemmas.Result.{err_from_is_err_and}
 use Rattle.std.proofs.lemmas.Bool.{cases_lt, both_ways}
 use Rattle.refusals.specs.declared.refusal.Refusal.{Refusal}
@@ -21,22 +21,22 @@ too_short : (count room : ℕ) (b : Bool) → (count ≤ room → b ≡ true) �
 too_short count room b fits failed =
     elim (cases_lt room count) [ inl less ↦ less | inr enough ↦ absurd (both_ways b failed (fits enough)) ]
 
-pub returns-in-err-check-path : goal.returns-in-err-check-path
-returns-in-err-check-path c =
+pub returns-in_err-check_path : goal.returns-in_err-check_path
+returns-in_err-check_path c =
     let v = view c.args.self.now in
     let s = sound c.args.self.now in
     let room = length c.args.piece.now in
-    let e = c.in-err-check-path.field-0.0 in
-    let p = err_from_is_err_and c.from-residual.result c.from-residual.ensures.1 in
-    let is : c.from-residual.result ≡ Err e = p.1 ∙ ap Err p.2 in
-    let h = sym c.in-err-check-path.ensures in
-    let answered = refused_answer v s (path c.args.node c.args.value room) (path_answer c.from-residual.result c.args.piece.now) e h
+    let e = c.in_err-check_path.field-0.0 in
+    let p = err_from_is_err_and c.from_residual.result c.from_residual.ensures.1 in
+    let is : c.from_residual.result ≡ Err e = p.1 ∙ ap Err p.2 in
+    let h = sym c.in_err-check_path.ensures in
+    let answered = refused_answer v s (path c.args.node c.args.value room) (path_answer c.from_residual.result c.args.piece.now) e h
     (ap (λ r. path_answer r c.args.piece.now) is) in
     record {
       answered = answered;
       promised = path_promised v s c.args.node c.args.value room _ answered;
       told = ap (λ r. path_answer r c.args.piece.now) is ∙ sym (told_refused v s c.args.node c.args.value room e h);
-      rest = rest_of c.args.piece.now c.from-residual.result e is;
+      rest = rest_of c.args.piece.now c.from_residual.result e is;
     }
 
 pub returns-then-not-contains : goal.returns-then-not-contains
@@ -44,7 +44,7 @@ returns-then-not-contains c =
     let v = view c.args.self.now in
     let s = sound c.args.self.now in
     let room = length c.args.piece.now in
-    let h = sym c.in-ok-check-path.ensures in
+    let h = sym c.in_ok-check_path.ensures in
     let out = sym c.if-not-contains.ensures in
     let answered = answer_absent v s c.args.node c.args.value room h out in
     record {
@@ -59,7 +59,7 @@ returns-then-not-walk c =
     let v = view c.args.self.now in
     let s = sound c.args.self.now in
     let room = length c.args.piece.now in
-    let h = sym c.in-ok-check-path.ensures in
+    let h = sym c.in_ok-check_path.ensures in
     let inside = sym c.if-not-contains.ensures in
     let short = too_short _ room c.walk.result c.walk.ensures.fits.1 c.if-not-walk.true in
     let answered = answer_short v s c.args.node c.args.value room h inside short in
@@ -75,7 +75,7 @@ returns c =
     let v = view c.args.self.now in
     let s = sound c.args.self.now in
     let room = length c.args.piece.now in
-    let h = sym c.in-ok-check-path.ensures in
+    let h = sym c.in_ok-check_path.ensures in
     let inside = sym c.if-not-contains.ensures in
     let fits = c.walk.ensures.fits.0 c.if-not-walk.false in
     let hops-are = c.walk.ensures.hops c.if-not-walk.false in

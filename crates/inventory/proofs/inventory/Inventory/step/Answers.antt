@@ -7,22 +7,22 @@ use Rattle.inventory.proofs.Edits.{stepped_kept}
 use Rattle.inventory.proofs.Outcomes.{sound, parts, exit}
 use Rattle.inventory.proofs.inventory.Inventory.step.Goals as goal
 
-pub returns-in-err-check-step : goal.returns-in-err-check-step
-returns-in-err-check-step c = record {
+pub returns-in_err-check_step : goal.returns-in_err-check_step
+returns-in_err-check_step c = record {
   called = exit (view c.args.self.now) (sound c.args.self.now) (step c.args.row.now) number_answer (λ e. refl)
-      c.in-err-check-step.field-0.0 c.from-residual.result c.in-err-check-step.ensures c.from-residual.ensures.1;
-  nodes-lent = refl;
-  flows-lent = refl;
-  workspace-lent = refl;
+      c.in_err-check_step.field-0.0 c.from_residual.result c.in_err-check_step.ensures c.from_residual.ensures.1;
+  nodes_lent = refl;
+  flows_lent = refl;
+  workspace_lent = refl;
 }
 
-pub invariant-of-self : goal.invariant-of-self
-invariant-of-self c = parts _ (stepped_kept (view c.args.self.now) (sound c.args.self.now) c.args.row.now c.padded.result c.in-ok-check-step.ensures c.padded.ensures).0
+pub invariant_of-self : goal.invariant_of-self
+invariant_of-self c = parts _ (stepped_kept (view c.args.self.now) (sound c.args.self.now) c.args.row.now c.padded.result c.in_ok-check_step.ensures c.padded.ensures).0
 
 pub returns : goal.returns
 returns c = record {
-  called = (stepped_kept (view c.args.self.now) (sound c.args.self.now) c.args.row.now c.padded.result c.in-ok-check-step.ensures c.padded.ensures).1;
-  nodes-lent = refl;
-  flows-lent = refl;
-  workspace-lent = refl;
+  called = (stepped_kept (view c.args.self.now) (sound c.args.self.now) c.args.row.now c.padded.result c.in_ok-check_step.ensures c.padded.ensures).1;
+  nodes_lent = refl;
+  flows_lent = refl;
+  workspace_lent = refl;
 }
