@@ -1,4 +1,6 @@
 //! A lattice that is chosen at run time: a ladder, a table, or the pair of two tables.
+#![tactic(auto)]
+
 ghost use Rattle.std.specs.Prelude.{◌≡◌, ◌≤◌, true, false, take, is_ok, Some, None, Decides, MatchResult};
 ghost use Rattle.lattice.specs.Order.{Lattice as Laws, ladder, table, pair, fits as within};
 ghost use Rattle.lattice.specs.Faults.{Clean, fault};

@@ -1,4 +1,6 @@
 //! What a line of a script asks for, and what is printed for the answer.
+#![tactic(auto)]
+
 pub mod answers;
 pub mod arguments;
 pub mod command;

@@ -1,4 +1,6 @@
 //! Whole runs over memory that is brought for them: what a host needs that lends none.
+#![tactic(auto)]
+
 ghost use Rattle.std.specs.Prelude.{◌≡◌, IfOk};
 ghost use Rattle.ledger.specs.Ledger.{fresh};
 ghost use Rattle.ledger.specs.Run.{EveryCallAnswered, EveryJudgementRight};

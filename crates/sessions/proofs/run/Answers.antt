@@ -15,15 +15,15 @@ returns g c =
     let schemes = c.args.schemes.now in
     let policies = c.args.policies.now in
     let calls = c.args.calls.now in
-    let answers = vec_items c.in-ok-answers.answers in
-    let given = c.in-ok-answers.ensures in
+    let answers = vec_items c.in_ok-answers.answers in
+    let given = c.in_ok-answers.ensures in
     let z = c.args.sizes in
-    let ns = c.as-mut-slice.result.now in
-    let fs = c.as-mut-slice-2.result.now in
-    let ws = c.as-mut-slice-3.result.now in
-    let en : ns ≡ node_records c.args.rooms.nodes = c.as-mut-slice.ensures.value ∙ c.in-ok-nodes.ensures in
-    let ef : fs ≡ flow_records c.args.rooms.flows = c.as-mut-slice-2.ensures.value ∙ c.in-ok-flows.ensures in
-    let ew : ws ≡ workspace_words c.args.rooms.words = c.as-mut-slice-3.ensures.value ∙ c.in-ok-words.ensures in
+    let ns = c.as_mut_slice.result.now in
+    let fs = c.as_mut_slice-2.result.now in
+    let ws = c.as_mut_slice-3.result.now in
+    let en : ns ≡ node_records c.args.rooms.nodes = c.as_mut_slice.ensures.value ∙ c.in_ok-nodes.ensures in
+    let ef : fs ≡ flow_records c.args.rooms.flows = c.as_mut_slice-2.ensures.value ∙ c.in_ok-flows.ensures in
+    let ew : ws ≡ workspace_words c.args.rooms.words = c.as_mut_slice-3.ensures.value ∙ c.in_ok-words.ensures in
     let same = same_fresh z c.args.rooms.nodes c.args.rooms.flows c.args.rooms.words ns fs ws en ef ew in
     let w = given.memory.0 in
     let D : List NodeRecord → List FlowRecord → List ℕ → Type 0 = λ a b d. DoneBy orders schemes policies (made_new z a b d) calls answers w in
@@ -33,8 +33,8 @@ returns g c =
         w,
         subst (λ a. D a (flow_records c.args.rooms.flows) (workspace_words c.args.rooms.words)) en
             (subst (λ b. D ns b (workspace_words c.args.rooms.words)) ef (subst (λ d. D ns fs d) ew given.memory.1)),
-        written c.in-ok-nodes.nodes.len c.run.new.nodes _ w.nodes (c.run.auto.nodes ∙ c.as-mut-slice.ensures.len) given.memory.2,
-        written c.in-ok-flows.flows.len c.run.new.flows _ w.flows (c.run.auto.flows ∙ c.as-mut-slice-2.ensures.len) given.memory.3,
+        written c.in_ok-nodes.nodes.len c.run.new.nodes _ w.nodes (c.run.auto.nodes ∙ c.as_mut_slice.ensures.len) given.memory.2,
+        written c.in_ok-flows.flows.len c.run.new.flows _ w.flows (c.run.auto.flows ∙ c.as_mut_slice-2.ensures.len) given.memory.3,
       );
       answered = subst (λ (L : Ledger). EveryCallAnswered L (events orders schemes policies calls answers)) same given.answered;
       right = subst (λ (L : Ledger). EveryJudgementRight L (events orders schemes policies calls answers)) same given.right;

@@ -8,8 +8,8 @@ refused : (o : Option Refusal) (f : Refusal) → ◌≡◌ {A = Result (Unit {0}
 refused None f e = cc
 refused (Some g) f e = cc
 
-pub returns-in-err-read : goal.returns-in-err-read
-returns-in-err-read c =
-    let p = err_from_is_err_and c.from-residual.result c.from-residual.ensures.1 in
-    let h = c.in-err-read.ensures in
+pub returns-in_err-read : goal.returns-in_err-read
+returns-in_err-read c =
+    let p = err_from_is_err_and c.from_residual.result c.from_residual.ensures.1 in
+    let h = c.in_err-read.ensures in
     rw (p.1, p.2) (record { value = refused _ _ h.value; accepted = h.accepted })

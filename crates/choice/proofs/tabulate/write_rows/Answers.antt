@@ -1,6 +1,6 @@
 use Rattle.std.proofs.Common.{sym, refl, ap, ◌∙◌, arith}
 use Rattle.std.proofs.lemmas.Bool.{le-leb}
-use Rattle.lattice.specs.Order.{Order, Lattice, table}
+use Rattle.lattice.specs.Order.{Order, table}
 use Rattle.choice.proofs.Written.{rows_start, rows_turn, rows_end, rows_order}
 use Rattle.choice.proofs.tabulate.write_rows.Goals as goal
 
@@ -9,8 +9,8 @@ loop-i-init g c = (rows_start (g.L.Lattice.order c.args.lattice.now), refl)
 
 pub loop-i-preserved : goal.loop-i-preserved
 loop-i-preserved g c =
-    rows_turn (g.L.Lattice.order c.args.lattice.now) c.loop-i.rows c.args.rows.now c.loop-i.i c.row-of.result
-    (omega arith) c.row-of.ensures c.loop-i.invariant
+    rows_turn (g.L.Lattice.order c.args.lattice.now) c.loop-i.rows c.args.rows.now c.loop-i.i c.row_of.result
+    (omega arith) c.row_of.ensures c.loop-i.invariant
 
 pub returns : goal.returns
 returns g c =

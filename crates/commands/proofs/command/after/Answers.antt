@@ -1,4 +1,4 @@
-use Rattle.std.proofs.Common.{◌≡◌, ℕ, List, sym, refl, arith, length-drop}
+use Rattle.std.proofs.Common.{ℕ, List, sym, arith, length-drop}
 use Rattle.std.proofs.lemmas.List.{take_all, at_drop_all}
 use Rattle.commands.proofs.command.after.Goals as goal
 

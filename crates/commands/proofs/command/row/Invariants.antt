@@ -1,4 +1,4 @@
-use Rattle.std.proofs.Common.{◌≡◌, ◌≤◌, min, length, get_or, take}
+use Rattle.std.proofs.Common.{◌≡◌, length, get_or, take}
 use Rattle.commands.specs.Meanings.{tabled, byte_most}
 use Rattle.commands.proofs.command.row.Given as goal
 
