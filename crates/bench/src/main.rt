@@ -1,4 +1,6 @@
 //! How long an inventory of full size takes to be drawn, settled and judged, and what it then holds.
+#![tactic(auto)]
+
 mod graph;
 mod judging;
 mod paths;

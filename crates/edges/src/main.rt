@@ -1,5 +1,6 @@
 //! The edges: what is still taken and what is refused first, each refusal with its place and layer, and the memory that it
 //! leaves as it was.
+#![tactic(auto)]
 
 mod calls;
 mod lattices;

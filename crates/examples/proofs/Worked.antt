@@ -1,12 +1,12 @@
 -- The worked examples, computed by the definitions.
-use Rattle.std.proofs.Common.{◌≡◌, ℕ, zero, suc, ◌+◌, ◌^◌, ◌<◌, ◌≤◌, Bool, true, false, cond, ◌&&◌, T, eqb, List, [], ◌∷◌, length, sym, refl, ap, ◌∙◌, subst, inl, inr, arith, lit<, lit≤}
+use Rattle.std.proofs.Common.{◌≡◌, ℕ, zero, suc, ◌^◌, ◌<◌, ◌≤◌, Bool, true, false, cond, T, eqb, List, [], ◌∷◌, sym, refl, ◌∙◌, subst, inl, inr, arith, lit<, lit≤}
 use Rattle.std.proofs.lemmas.Bool.{true≢false}
 use Rattle.lattice.specs.Sets.{has, with, without, every, some_below, least, all_of, some_of, gather, image}
 use Rattle.lattice.specs.Order.{is_meet, is_join, meet, join}
 use Rattle.refusals.specs.declared.refusal.Reason.TheVariants.{ShortPiece}
 use Rattle.lattice.proofs.Members.{has_empty}
 use Rattle.policy.specs.declared.label.Label.{Label}
-use Rattle.policy.specs.Clauses.{Clause, allow, deny, none, more, covered_in, overlap, narrowed_in, allows, decider, evidence}
+use Rattle.policy.specs.Clauses.{Clause, allow, deny, none, more, covered_in, overlap, narrowed_in, evidence}
 use Rattle.policy.specs.Policies.{Spells}
 use Rattle.policy.specs.Words.{values_below, spelled, Written}
 use Rattle.policy.proofs.Exact.{spelled_once}
@@ -15,7 +15,7 @@ use Rattle.ledger.specs.Run.{Answer, Answered, LabelOf, refused, shown}
 use Rattle.ledger.specs.Labelling.{Carries, Closed, Apart}
 use Rattle.ledger.proofs.Labellings.{closed_labellings_are_labels, near_paths_are_shortest}
 use Rattle.ledger.proofs.Ranges.{has_below}
-use Rattle.examples.specs.Worked.{data_types, scheme, sizes, adverts_words, together_words, held, Judged, cycle, cycle_verified, WorkedExamples}
+use Rattle.examples.specs.Worked.{sizes, adverts_words, together_words, cycle, cycle_verified, WorkedExamples}
 
 -- naming this one unfolds what an example computes with
 unfoldable computing : Unit {0}

@@ -13,7 +13,7 @@ use Rattle.policy.specs.Clauses.{Clause, allows, decider, evidence}
 use Rattle.policy.specs.Policies.{Spells}
 use Rattle.policy.specs.Words.{meaning}
 use Rattle.ledger.specs.Ledger.{Ledger, Call, enter, step, mark, verify, draw, settle, path, fresh, after, Shortest}
-use Rattle.ledger.specs.Run.{Answer, Answered, LabelOf, refused, shown}
+use Rattle.ledger.specs.Run.{Answered, LabelOf, refused, shown}
 
 abbrev pub kinds : Order
 kinds = table (0b1111 ∷ 0b1010 ∷ 0b1100 ∷ 0b1000 ∷ [])

@@ -1,4 +1,6 @@
 //! The worked examples as one proved statement, and examples of each layer, run as tests.
+#![tactic(auto)]
+
 #[cfg(test)]
 mod clauses;
 #[cfg(test)]

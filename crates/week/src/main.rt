@@ -1,5 +1,7 @@
 //! One file's week: its page turns arrive, a layout job counts them, the privacy office's policy goes in, every job is
 //! judged by what reaches it, and the owner of a refused job mends it.
+#![tactic(auto)]
+
 mod calls;
 mod office;
 mod show;

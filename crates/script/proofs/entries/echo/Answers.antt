@@ -6,13 +6,13 @@ use Rattle.script.proofs.entries.echo.Goals as goal
 pub loop-word-init : goal.loop-word-init
 loop-word-init c =
     joined_first _ _ _ _ c.in-Some.ensures.word
-    (c.in-ok-extend-from-slice.ensures.items ∙ ap (λ (t : List ℕ). t ++ c.in-Some.first.now) c.new-text.ensures.items)
+    (c.in_ok-extend_from_slice.ensures.items ∙ ap (λ (t : List ℕ). t ++ c.in-Some.first.now) c.new-text.ensures.items)
 
 pub loop-word-preserved : goal.loop-word-preserved
 loop-word-preserved c =
-    joined_more _ _ _ _ _ _ _ c.in-Some-first-word.ensures.word c.loop-word.invariant c.in-ok-push.ensures.items c.in-ok-extend-from-slice-2.ensures.items
+    joined_more _ _ _ _ _ _ _ c.in-Some-first_word.ensures.word c.loop-word.invariant c.in_ok-push.ensures.items c.in_ok-extend_from_slice-2.ensures.items
 
 pub returns : goal.returns
 returns c =
-    sym (append-nil (vec_items c.loop-word.text)) ∙ ap (λ (t : List ℕ). vec_items c.loop-word.text ++ t) (sym (followed_none _ c.in-default-first-word.ensures.word))
+    sym (append-nil (vec_items c.loop-word.text)) ∙ ap (λ (t : List ℕ). vec_items c.loop-word.text ++ t) (sym (followed_none _ c.in_default-first_word.ensures.word))
     ∙ sym c.loop-word.invariant

@@ -11,7 +11,7 @@ loop-entry-init c = and_none _ _ (sym (printed_none c.args.calls.now c.args.answ
 pub loop-entry-preserved : goal.loop-entry-preserved
 loop-entry-preserved c =
     printed_more c.args.calls.now c.args.answers.now c.args.entries.now c.loop-entry.entry-index c.entry-item.result _ _ _ c.loop-entry-test.true c.loop-entry.invariant
-    (c.in-ok-push-line.ensures ∙ ap (λ (e : Entry). vec_items c.loop-entry.out ++ line_text c.args.calls.now c.args.answers.now (line_of e)) c.entry-item.is)
+    (c.in_ok-push_line.ensures ∙ ap (λ (e : Entry). vec_items c.loop-entry.out ++ line_text c.args.calls.now c.args.answers.now (line_of e)) c.entry-item.is)
 
 pub returns : goal.returns
 returns c =

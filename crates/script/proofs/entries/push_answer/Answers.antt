@@ -12,13 +12,13 @@ returns-then-number-calls c =
       | then-number-calls-via-else-number-calls+then-number-answers w ↦ asked_past_answers _ _ _ w.if-number-answers.true
     ])
 
-pub returns-in-default : goal.returns-in-default
-returns-in-default c = and_none _ _ (asked_nothing _ _ _ (Enter 0 0 0) _ c.if-number-calls.false c.if-number-answers.false c.index-answers-number.is c.in-default.is)
+pub returns-in_default : goal.returns-in_default
+returns-in_default c = and_none _ _ (asked_nothing _ _ _ (Enter 0 0 0) _ c.if-number-calls.false c.if-number-answers.false c.index-answers-number.is c.in_default.is)
 
 pub returns : goal.returns
 returns c =
-    let h = c.in-ok-text.ensures in
-    c.in-ok-extend-from-slice.ensures.items
+    let h = c.in_ok-text.ensures in
+    c.in_ok-extend_from_slice.ensures.items
     ∙ ap (λ (t : List ℕ). vec_items c.args.out.now ++ t)
-    (c.as-bytes.ensures.value ∙ h
+    (c.as_bytes.ensures.value ∙ h
     ∙ sym (asked_some c.args.calls.now c.args.answers.now c.args.number (Enter 0 0 0) _ _ c.if-number-calls.false c.if-number-answers.false c.index-answers-number.is c.in-Some.is))

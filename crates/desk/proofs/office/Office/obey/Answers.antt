@@ -5,10 +5,10 @@ use Rattle.desk.proofs.Stub.{anyway}
 use Rattle.desk.proofs.office.Office.obey.Goals as goal
 
 pub returns-in-Ladder : goal.returns-in-Ladder
-returns-in-Ladder c = anyway (office_of c.args.self.now) (words_of c.args.line.now) (meaning_of c.args.command) c.keep-lattice.result (office_of c.keep-lattice.new.self)
+returns-in-Ladder c = anyway (office_of c.args.self.now) (words_of c.args.line.now) (meaning_of c.args.command) c.keep_lattice.result (office_of c.keep_lattice.new.self)
 
 pub returns-in-Table : goal.returns-in-Table
-returns-in-Table c = anyway (office_of c.args.self.now) (words_of c.args.line.now) (meaning_of c.args.command) c.keep-lattice-in-Table.result (office_of c.keep-lattice-in-Table.new.self)
+returns-in-Table c = anyway (office_of c.args.self.now) (words_of c.args.line.now) (meaning_of c.args.command) c.keep_lattice-in-Table.result (office_of c.keep_lattice-in-Table.new.self)
 
 pub returns-in-Pair : goal.returns-in-Pair
 returns-in-Pair c = anyway (office_of c.args.self.now) (words_of c.args.line.now) (meaning_of c.args.command) c.pair.result (office_of c.pair.new.self)
