@@ -4,7 +4,7 @@
 #[cfg(test)]
 mod clauses;
 #[cfg(test)]
-mod inventory;
+mod inventories;
 #[cfg(test)]
 mod lattices;
 #[cfg(test)]
