@@ -46,15 +46,15 @@ module _ (start ns : List NodeRecord) (fl : List FlowRecord) (rw' : List (List �
   led_further : (k : ℕ) → ((w : ℕ) → value ≤ w → w < k → holds (get_or fresh (get_or fl number no_flow).«from» 0) w
       → through (graph ns fl rw' N F) number w ≢ 0 → Near (graph ns fl rw' N F) W (get_or fl number no_flow).to (through (graph ns fl rw' N F) number w) (suc d))
       → Led (graph ns fl rw' N F) W fresh d number k
-  led_further k between w lw h some open-end = go (dec_lt w value)
+  led_further k between w lw h some open_end = go (dec_lt w value)
     where
       go : Dec (w < value) → Near (graph ns fl rw' N F) W (get_or fl number no_flow).to (through (graph ns fl rw' N F) number w) (suc d)
-      go (yes l) = lead.led w l h some open-end
+      go (yes l) = lead.led w l h some open_end
       go (no l) = between w (omega arith) lw h some
 
   -- where the rest is empty, all are led on
   pub lead_end : rest ≡ 0 → Led (graph ns fl rw' N F) W fresh d number 64
-  lead_end empty = led_further 64 (λ w from-here lw h some. absurd (none_in rest (w - value) empty (sym (bit_left w from-here) ∙ h)))
+  lead_end empty = led_further 64 (λ w from_here lw h some. absurd (none_in rest (w - value) empty (sym (bit_left w from_here) ∙ h)))
 
   -- the next value that is led on
   module _ (more : 0 < rest) where
@@ -74,13 +74,13 @@ module _ (start ns : List NodeRecord) (fl : List FlowRecord) (rw' : List (List �
         → through (graph ns fl rw' N F) number (value + count_trailing_zeros 64 rest) ≢ 0
         → Near (graph ns fl rw' N F) W (get_or fl number no_flow).to (through (graph ns fl rw' N F) number (value + count_trailing_zeros 64 rest)) (suc d))
         → Led (graph ns fl rw' N F) W fresh d number (value + count_trailing_zeros 64 rest + 1)
-    led_upto there = led_further (value + count_trailing_zeros 64 rest + 1) (λ w from-here lw h some. go w from-here lw h some (dec_lt w (value + count_trailing_zeros 64 rest)))
+    led_upto there = led_further (value + count_trailing_zeros 64 rest + 1) (λ w from_here lw h some. go w from_here lw h some (dec_lt w (value + count_trailing_zeros 64 rest)))
       where
         go : (w : ℕ) → value ≤ w → w < value + count_trailing_zeros 64 rest + 1 → holds (get_or fresh (get_or fl number no_flow).«from» 0) w
             → through (graph ns fl rw' N F) number w ≢ 0 → Dec (w < value + count_trailing_zeros 64 rest)
             → Near (graph ns fl rw' N F) W (get_or fl number no_flow).to (through (graph ns fl rw' N F) number w) (suc d)
-        go w from-here lw h some (yes l) = absurd (omega (arith, trailing_none 64 rest (w - value) (omega arith), bit_left w from-here, h))
-        go w from-here lw h some (no l) =
+        go w from_here lw h some (yes l) = absurd (omega (arith, trailing_none 64 rest (w - value) (omega arith), bit_left w from_here, h))
+        go w from_here lw h some (no l) =
             let is : value + count_trailing_zeros 64 rest ≡ w = omega arith in
             subst (λ u. holds (get_or fresh (get_or fl number no_flow).«from» 0) u → through (graph ns fl rw' N F) number u ≢ 0
             → Near (graph ns fl rw' N F) W (get_or fl number no_flow).to (through (graph ns fl rw' N F) number u) (suc d)) is there h some
@@ -119,12 +119,12 @@ module _ (start ns : List NodeRecord) (fl : List FlowRecord) (rw' : List (List �
         → (holds (get_or ns (get_or fl number no_flow).to no_node).label (through (graph ns fl rw' N F) number (value + count_trailing_zeros 64 rest)) → ⊥)
         → number < F → (get_or ns (get_or fl number no_flow).to no_node).verified ≡ false
         → Leading start ns' fl rw' N F W₀ W' fresh next₀ next' d number (value + count_trailing_zeros 64 rest + 1) (rest / 2 ^ count_trailing_zeros 64 rest / 2) (added + 1)
-    lead_put ns' W' next' a p is long-ns long_W long-next some new lf open-end = record {
+    lead_put ns' W' next' a p is long_ns long_W long_next some new lf open_end = record {
       spread =
           let was = lead.spread.fresh_is _ _ (lead.spread.fit.joined number lf).0 lead_within lead_has in
           put_spread ns ns' fl rw' N F W W' fresh next next' (get_or fl number no_flow).to _ d a p new
-          number (value + count_trailing_zeros 64 rest) (fitting_kept ns ns' fl rw' N F W W' long-ns long_W lead.spread.fit) (omega (arith, lead.spread.next_room))
-          (lead.spread.fit.joined number lf).1 (lead.spread.fit.bounded _ _) some open-end lf refl lead_within was.0 was.1 refl is lead.spread;
+          number (value + count_trailing_zeros 64 rest) (fitting_kept ns ns' fl rw' N F W W' long_ns long_W lead.spread.fit) (omega (arith, lead.spread.next_room))
+          (lead.spread.fit.joined number lf).1 (lead.spread.fit.bounded _ _) some open_end lf refl lead_within was.0 was.1 refl is lead.spread;
       led = λ w lw h some' open'. go w lw h some' open' (dec_lt w (value + count_trailing_zeros 64 rest));
       grown = grown_more lead.grown grown_here;
       aimed = aimed_put p lead.aimed;
@@ -138,7 +138,7 @@ module _ (start ns : List NodeRecord) (fl : List FlowRecord) (rw' : List (List �
         -- before the value is put, all below it are led on
         before : Led (graph ns fl rw' N F) W fresh d number (value + count_trailing_zeros 64 rest)
         before = led_further (value + count_trailing_zeros 64 rest)
-            (λ w from-here lw h some'. absurd (omega (arith, trailing_none 64 rest (w - value) (omega arith), bit_left w from-here, h)))
+            (λ w from_here lw h some'. absurd (omega (arith, trailing_none 64 rest (w - value) (omega arith), bit_left w from_here, h)))
 
         go : (w : ℕ) → w < value + count_trailing_zeros 64 rest + 1 → holds (get_or fresh (get_or fl number no_flow).«from» 0) w
             → through (graph ns fl rw' N F) number w ≢ 0 → (get_or ns' (get_or fl number no_flow).to no_node).verified ≡ false → Dec (w < value + count_trailing_zeros 64 rest)
@@ -159,24 +159,24 @@ module _ (start ns : List NodeRecord) (fl : List FlowRecord) (rw' : List (List �
         → made ≢ 0 → (holds (get_or ns (get_or fl number no_flow).to no_node).label made → ⊥) → number < F
         → (get_or ns (get_or fl number no_flow).to no_node).verified ≡ false
         → Leading start ns' fl rw' N F W₀ W' fresh next₀ next' d number (value + count_trailing_zeros 64 rest + 1) (rest / 2 ^ count_trailing_zeros 64 rest / 2) added'
-    lead_made ns' W' next' added' is-nodes is-next is-words is-added some new lf open-end =
+    lead_made ns' W' next' added' is_nodes is_next is_words is_added some new lf open_end =
         let fit = lead.spread.fit in
         let lb = (fit.joined number lf).1 in
-        subst (λ k. Leading start ns' fl rw' N F W₀ W' fresh next₀ next' d number (value + count_trailing_zeros 64 rest + 1) (rest / 2 ^ count_trailing_zeros 64 rest / 2) k) (sym is-added)
+        subst (λ k. Leading start ns' fl rw' N F W₀ W' fresh next₀ next' d number (value + count_trailing_zeros 64 rest + 1) (rest / 2 ^ count_trailing_zeros 64 rest / 2) k) (sym is_added)
         (lead_put ns' W' next' _
         (put_made ns ns' W W' next next' _ _ d _ (omega (arith, lb, fit.nodes_room)) (omega (arith, lb, lead.spread.next_room)) (omega (arith, lb, fit.words_room))
-        (fit.bounded _ _) is-nodes is-next is-words)
-        refl (ap length is-nodes ∙ length-set _ _ _) (ap length is-words ∙ length-set _ _ _ ∙ length-set _ _ _) (ap length is-next ∙ length-set _ _ _)
-        some new lf open-end)
+        (fit.bounded _ _) is_nodes is_next is_words)
+        refl (ap length is_nodes ∙ length-set _ _ _) (ap length is_words ∙ length-set _ _ _ ∙ length-set _ _ _) (ap length is_next ∙ length-set _ _ _)
+        some new lf open_end)
 
     -- the same, of lists that were left as they were
     pub lead_left_out : (ns' : List NodeRecord) (W' next' : List ℕ) (added' : ℕ) → ns' ≡ ns → next' ≡ next → W' ≡ W → added' ≡ added → number < F
         → (through (graph ns fl rw' N F) number (value + count_trailing_zeros 64 rest) ≢ 0
         → holds (get_or ns (get_or fl number no_flow).to no_node).label (through (graph ns fl rw' N F) number (value + count_trailing_zeros 64 rest)))
         → Leading start ns' fl rw' N F W₀ W' fresh next₀ next' d number (value + count_trailing_zeros 64 rest + 1) (rest / 2 ^ count_trailing_zeros 64 rest / 2) added'
-    lead_left_out ns' W' next' added' is-nodes is-next is-words is-added lf there =
-        subst (λ x. Leading start x fl rw' N F W₀ W' fresh next₀ next' d number (value + count_trailing_zeros 64 rest + 1) (rest / 2 ^ count_trailing_zeros 64 rest / 2) added') (sym is-nodes)
-        (subst (λ x. Leading start ns fl rw' N F W₀ W' fresh next₀ x d number (value + count_trailing_zeros 64 rest + 1) (rest / 2 ^ count_trailing_zeros 64 rest / 2) added') (sym is-next)
-        (subst (λ x. Leading start ns fl rw' N F W₀ x fresh next₀ next d number (value + count_trailing_zeros 64 rest + 1) (rest / 2 ^ count_trailing_zeros 64 rest / 2) added') (sym is-words)
-        (subst (λ k. Leading start ns fl rw' N F W₀ W fresh next₀ next d number (value + count_trailing_zeros 64 rest + 1) (rest / 2 ^ count_trailing_zeros 64 rest / 2) k) (sym is-added)
+    lead_left_out ns' W' next' added' is_nodes is_next is_words is_added lf there =
+        subst (λ x. Leading start x fl rw' N F W₀ W' fresh next₀ next' d number (value + count_trailing_zeros 64 rest + 1) (rest / 2 ^ count_trailing_zeros 64 rest / 2) added') (sym is_nodes)
+        (subst (λ x. Leading start ns fl rw' N F W₀ W' fresh next₀ x d number (value + count_trailing_zeros 64 rest + 1) (rest / 2 ^ count_trailing_zeros 64 rest / 2) added') (sym is_next)
+        (subst (λ x. Leading start ns fl rw' N F W₀ x fresh next₀ next d number (value + count_trailing_zeros 64 rest + 1) (rest / 2 ^ count_trailing_zeros 64 rest / 2) added') (sym is_words)
+        (subst (λ k. Leading start ns fl rw' N F W₀ W fresh next₀ next d number (value + count_trailing_zeros 64 rest + 1) (rest / 2 ^ count_trailing_zeros 64 rest / 2) k) (sym is_added)
         (lead_none lf there))))

@@ -62,10 +62,10 @@ listed_kept k next next' list count to added l aimed which = ⊎_elim
 
 -- one more node
 module _ (k : ℕ) (next next' list : List ℕ) (count to added : ℕ) (l : Listed k next list count) (aimed : Aimed next next' to added)
-    (had : get_or next to 0 ≡ 0) (has-now : added ≢ 0) (within-k : to < k) where
+    (had : get_or next to 0 ≡ 0) (has_now : added ≢ 0) (within_k : to < k) where
   sum_now : sum_below k (λ n. some (get_or next' n 0)) ≡ suc (sum_below k (λ n. some (get_or next n 0)))
-  sum_now = sum_more (λ n. some (get_or next n 0)) (λ n. some (get_or next' n 0)) k to within-k
-      (some_one _ (aimed.lands has-now) ∙ ap suc (sym (some_none _ had))) (λ n ne. ap some (aimed.elsewhere n ne))
+  sum_now = sum_more (λ n. some (get_or next n 0)) (λ n. some (get_or next' n 0)) k to within_k
+      (some_one _ (aimed.lands has_now) ∙ ap suc (sym (some_none _ had))) (λ n ne. ap some (aimed.elsewhere n ne))
 
   pub listed_room : count < k
   listed_room = omega (arith, l.few, sum_now, sum_bound (λ n. some (get_or next' n 0)) k 1 (λ n _. some_most (get_or next' n 0)))
@@ -113,7 +113,7 @@ listed_skip k sets list count s l room none = record {
 
 pub listed_next : (k : ℕ) (sets list : List ℕ) (count s : ℕ) → Listed k sets list count → k < length sets → k < length list → s ≢ 0
     → Listed (k + 1) (set sets k s) (set list count k) (count + 1)
-listed_next k sets list count s l room list-room more = record {
+listed_next k sets list count s l room list_room more = record {
   few = subst (λ m. count + 1 ≡ sum_below m (λ n. some (get_or (set sets k s) n 0))) (sym (add-one k))
       (omega (
         arith,
@@ -142,8 +142,8 @@ listed_next k sets list count s l room list-room more = record {
 
 -- the same list and count under other names
 pub listed_as : (k : ℕ) (sets list list' : List ℕ) (count count' : ℕ) → list' ≡ list → count' ≡ count → Listed k sets list count → Listed k sets list' count'
-listed_as k sets list list' count count' is-list is-count l =
-    subst (λ x. Listed k sets x count') (sym is-list) (subst (λ n. Listed k sets list n) (sym is-count) l)
+listed_as k sets list list' count count' is_list is_count l =
+    subst (λ x. Listed k sets x count') (sym is_list) (subst (λ n. Listed k sets list n) (sym is_count) l)
 
 -- all sets are empty, once those that are listed are
 pub emptied : (k : ℕ) (sets sets' list : List ℕ) (count : ℕ) → Listed k sets list count
@@ -169,8 +169,8 @@ copied k sets sets' source list count l none each others n ln = go (ℕ_discrete
 -- equal sets and equal lists
 pub relisted : (k : ℕ) (sets sets' list list' : List ℕ) (count : ℕ) → Listed k sets list count
     → ((n : ℕ) → n < k → get_or sets' n 0 ≡ get_or sets n 0) → ((j : ℕ) → j < count → get_or list' j 0 ≡ get_or list j 0) → Listed k sets' list' count
-relisted k sets sets' list list' count l same same-list = record {
+relisted k sets sets' list list' count l same same_list = record {
   few = l.few ∙ sym (sum_same (λ n. some (get_or sets n 0)) (λ n. some (get_or sets' n 0)) k (λ n ln. ap some (same n ln)));
-  there = λ n ln ne. let at = l.there n ln (λ z. ne (same n ln ∙ z)) in (at.0, at.1, same-list at.0 at.1 ∙ at.2);
-  within = λ j lj. omega (arith, l.within j lj, same-list j lj);
+  there = λ n ln ne. let at = l.there n ln (λ z. ne (same n ln ∙ z)) in (at.0, at.1, same_list at.0 at.1 ∙ at.2);
+  within = λ j lj. omega (arith, l.within j lj, same_list j lj);
 }

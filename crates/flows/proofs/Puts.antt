@@ -66,12 +66,12 @@ pub put_made : (ns ns' : List NodeRecord) (W W' next next' : List ℕ) (b y d a 
     → next' ≡ set next b (with_value (get_or next b 0) y)
     → W' ≡ set (set W (128 * b + y) (d + 1)) (128 * b + 64 + y) a
     → Put ns ns' W W' next next' b y d a
-put_made ns ns' W W' next next' b y d a lb lnext lw ly is-nodes is-next is-words =
+put_made ns ns' W W' next next' b y d a lb lnext lw ly is_nodes is_next is_words =
     let words : List ℕ = set (set W (128 * b + y) (suc d)) (128 * b + 64 + y) a in
-    let words_are : W' ≡ words = is-words ∙ ap (λ k. set (set W (128 * b + y) k) (128 * b + 64 + y) a) (add-one d) in
-    subst (λ x. Put ns ns' W W' next x b y d a) (sym is-next)
+    let words_are : W' ≡ words = is_words ∙ ap (λ k. set (set W (128 * b + y) k) (128 * b + 64 + y) a) (add-one d) in
+    subst (λ x. Put ns ns' W W' next x b y d a) (sym is_next)
     (subst (λ x. Put ns ns' W x next (set next b (with_value (get_or next b 0) y)) b y d a) (sym words_are)
-    (subst (λ x. Put ns x W words next (set next b (with_value (get_or next b 0) y)) b y d a) (sym is-nodes)
+    (subst (λ x. Put ns x W words next (set next b (with_value (get_or next b 0) y)) b y d a) (sym is_nodes)
     (put_lists ns W next b y d a lb lnext lw ly)))
 
 module _ {ns ns' : List NodeRecord} {W W' next next' : List ℕ} {b y d a : ℕ} (p : Put ns ns' W W' next next' b y d a) where

@@ -20,8 +20,8 @@ use Rattle.flows.proofs.Puts.{Put, put_verified, put_marks, label_other, label_k
 pub led_kept : (ns ns' : List NodeRecord) (fl : List FlowRecord) (rw' : List (List ℕ)) (N F : ℕ) (W W' fresh next next' : List ℕ) (d added f k : ℕ)
     → Bounded (graph ns fl rw' N F) 64 → Grown N ns ns' W W' next next' added
     → Led (graph ns fl rw' N F) W fresh d f k → Led (graph ns' fl rw' N F) W' fresh d f k
-led_kept ns ns' fl rw' N F W W' fresh next next' d added f k bounded grown led w lw h some open-end =
-    let was = led w lw h some (sym (same_verified ns ns' grown.same _) ∙ open-end) in
+led_kept ns ns' fl rw' N F W W' fresh next next' d added f k bounded grown led w lw h some open_end =
+    let was = led w lw h some (sym (same_verified ns ns' grown.same _) ∙ open_end) in
     grown.near _ _ _ (bounded _ _) was.0 was.1
 
 module _ (ns ns' : List NodeRecord) (fl : List FlowRecord) (rw' : List (List ℕ)) (N F : ℕ) (W W' fresh next next' : List ℕ) (b y d a : ℕ)
@@ -51,7 +51,7 @@ module _ (ns ns' : List NodeRecord) (fl : List FlowRecord) (rw' : List (List ℕ
       → f < F → (flow_at (graph ns fl rw' N F) f).to ≡ b → w < 64 → holds (get_or ns (flow_at (graph ns fl rw' N F) f).«from» no_node).label w
       → distance W (flow_at (graph ns fl rw' N F) f).«from» w ≡ d → through (graph ns fl rw' N F) f w ≡ y → a ≡ 64 * f + w
       → Spread (graph ns fl rw' N F) W fresh next d → Spread (graph ns' fl rw' N F) W' fresh next' d
-  put_spread f w fit room lb ly some open-end lf ends lw held far makes is s = record {
+  put_spread f w fit room lb ly some open_end lf ends lw held far makes is s = record {
     fit = fit;
     fresh_room = s.fresh_room;
     next_room = room;
@@ -100,7 +100,7 @@ module _ (ns ns' : List NodeRecord) (fl : List FlowRecord) (rw' : List (List ℕ
       arrived_new = (
         lf,
         ends,
-        put_verified p b ∙ open-end,
+        put_verified p b ∙ open_end,
         label_kept p _ w held,
         p.distance_here ∙ ap suc (sym ((words_kept _ w lw held).0 ∙ far)),
         makes,
@@ -125,13 +125,13 @@ led_all : (G : Graph) (W fresh next : List ℕ) (d : ℕ) → Spread G W fresh n
     → (f w : ℕ) → f < G.flow_count → w < 64 → holds (node_at G (flow_at G f).«from»).label w → distance W (flow_at G f).«from» w ≤ d
     → through G f w ≢ 0 → (node_at G (flow_at G f).to).verified ≡ false
     → Near G W (flow_at G f).to (through G f w) (suc (distance W (flow_at G f).«from» w))
-led_all G W fresh next d s led f w lf lw h within some open-end = go (dec_lt (distance W (flow_at G f).«from» w) d)
+led_all G W fresh next d s led f w lf lw h within some open_end = go (dec_lt (distance W (flow_at G f).«from» w) d)
   where
     go : Dec (distance W (flow_at G f).«from» w < d) → Near G W (flow_at G f).to (through G f w) (suc (distance W (flow_at G f).«from» w))
-    go (yes l) = s.led_on f w lf lw h l some open-end
+    go (yes l) = s.led_on f w lf lw h l some open_end
     go (no l) =
         let is : distance W (flow_at G f).«from» w ≡ d = omega arith in
-        let found = led f lf w lw (s.fresh_has _ w (s.fit.joined f lf).0 lw h is) some open-end in
+        let found = led f lf w lw (s.fresh_has _ w (s.fit.joined f lf).0 lw h is) some open_end in
         (found.0, omega (arith, found.1))
 
 -- the next round
@@ -151,7 +151,7 @@ next_round G W fresh next fresh' next' d s led long long' moved cleared = record
   fresh_has = λ n v ln lv h at. subst (λ q. holds q v) (sym (moved n ln)) (s.next_has n v ln lv h (omega arith));
   next_is = λ n v ln lv h. absurd (none_in _ v (cleared n ln) h);
   next_has = λ n v ln lv h beyond. absurd (omega (arith, (s.next_is n v ln lv (s.next_has n v ln lv h (omega arith))).1));
-  led_on = λ f w lf lw h within some open-end. led_all G W fresh next d s led f w lf lw h (omega arith) some open-end;
+  led_on = λ f w lf lw h within some open_end. led_all G W fresh next d s led f w lf lw h (omega arith) some open_end;
 }
 
 -- after a round that adds nothing, the labels are complete
@@ -161,7 +161,7 @@ finished G W fresh next d s led none = (
   s.grounded,
   s.linked,
   s.marked,
-  λ f w lf lw h some open-end. led_all G W fresh next d s led f w lf lw h (near (s.fit.joined f lf).0 lw h) some open-end,
+  λ f w lf lw h some open_end. led_all G W fresh next d s led f w lf lw h (near (s.fit.joined f lf).0 lw h) some open_end,
 )
   where
     near : {n w : ℕ} → n < G.node_count → w < 64 → holds (node_at G n).label w → distance W n w ≤ d
@@ -190,7 +190,7 @@ begun G W fresh next fit marks fresh_room next_room labels zeros starts none = r
   fresh_has = λ n v ln lv h at. subst (λ q. holds q v) (labels n ln ∙ sym (starts n ln)) h;
   next_is = λ n v ln lv h. absurd (none_in _ v (none n ln) h);
   next_has = λ n v ln lv h beyond. absurd (omega (arith, zeros n v ln lv));
-  led_on = λ f w lf lw h within some open-end. absurd (omega arith);
+  led_on = λ f w lf lw h within some open_end. absurd (omega arith);
 }
 
 pub grown_none : (k : ℕ) (ns : List NodeRecord) (W next : List ℕ) → Grown k ns ns W W next next 0
@@ -247,7 +247,7 @@ pub record Running (start ns : List NodeRecord) (fl : List FlowRecord) (rw' : Li
 -- a round keeps what fits, since it keeps the lengths
 pub fitting_kept : (ns ns' : List NodeRecord) (fl : List FlowRecord) (rw' : List (List ℕ)) (N F : ℕ) (W W' : List ℕ)
     → length ns' ≡ length ns → length W' ≡ length W → Fitting (graph ns fl rw' N F) W → Fitting (graph ns' fl rw' N F) W'
-fitting_kept ns ns' fl rw' N F W W' long-ns long_W fit = record {
+fitting_kept ns ns' fl rw' N F W W' long_ns long_W fit = record {
   few_nodes = fit.few_nodes;
   few_flows = fit.few_flows;
   nodes_room = omega (arith, fit.nodes_room);

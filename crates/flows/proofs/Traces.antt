@@ -91,10 +91,10 @@ round_more start ns ns' fl rw' N F W₀ W W' fresh next₀ next next' active lis
     go f j lf lj is (no ne) = led_kept ns ns' fl rw' N F W W' fresh next next' d added f 64 r.spread.fit.bounded grown (r.led f j lf (omega arith) is)
 
 pub round_end : (start ns : List NodeRecord) (fl : List FlowRecord) (rw' : List (List ℕ)) (N F : ℕ) (W₀ W fresh next₀ next active listed : List ℕ)
-    (d i count active-count : ℕ)
-    → Rounding start ns fl rw' N F W₀ W fresh next₀ next active listed d i count → Listed N fresh active active-count → active-count ≤ i
+    (d i count active_count : ℕ)
+    → Rounding start ns fl rw' N F W₀ W fresh next₀ next active listed d i count → Listed N fresh active active_count → active_count ≤ i
     → (f : ℕ) → f < F → Led (graph ns fl rw' N F) W fresh d f 64
-round_end start ns fl rw' N F W₀ W fresh next₀ next active listed d i count active-count r list all f lf = go (ℕ_discrete (get_or fresh (get_or fl f no_flow).«from» 0) 0)
+round_end start ns fl rw' N F W₀ W fresh next₀ next active listed d i count active_count r list all f lf = go (ℕ_discrete (get_or fresh (get_or fl f no_flow).«from» 0) 0)
   where
     go : Dec (get_or fresh (get_or fl f no_flow).«from» 0 ≡ 0) → Led (graph ns fl rw' N F) W fresh d f 64
     go (yes z) = λ w lw h. absurd (none_in _ w z h)

@@ -11,11 +11,11 @@ use Rattle.flows.proofs.Sets.{has_below}
 trail_front : (G : Graph) (f n w v : ℕ) (fs : List ℕ) (b y : ℕ)
     → f < G.flow_count → (flow_at G f).to ≡ n → (node_at G n).verified ≡ false → through G f w ≡ v → v ≢ 0
     → Trail G n v fs b y → Trail G (flow_at G f).«from» w (f ∷ fs) b y
-trail_front G f n w v fs b y lf ends open-end makes some rest = (
+trail_front G f n w v fs b y lf ends open_end makes some rest = (
   lf,
   refl,
   (λ z. some (sym makes ∙ z)),
-  subst (λ m. (node_at G m).verified ≡ false) (sym ends) open-end,
+  subst (λ m. (node_at G m).verified ≡ false) (sym ends) open_end,
   subst (λ u. Trail G (flow_at G f).to u fs b y) (sym makes) (subst (λ m. Trail G m v fs b y) (sym ends) rest),
 )
 

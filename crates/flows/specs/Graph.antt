@@ -12,8 +12,8 @@ pub record Graph : Type 0 where
   pub flow_count : ℕ
 
 abbrev pub graph : List NodeRecord → List FlowRecord → List (List ℕ) → ℕ → ℕ → Graph
-graph nodes flows rows nodeCount flowCount =
-    record { nodes = nodes; flows = flows; rows = rows; node_count = nodeCount; flow_count = flowCount }
+graph nodes flows rows node_count flow_count =
+    record { nodes = nodes; flows = flows; rows = rows; node_count = node_count; flow_count = flow_count }
 
 -- value v is in the set s
 abbrev pub holds : ℕ → ℕ → Type 0

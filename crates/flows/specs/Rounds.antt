@@ -74,7 +74,7 @@ pub record Listed (k : ℕ) (sets list : List ℕ) (count : ℕ) : Type 0 where
 -- one flow, which ends at node `to`, has led `added` values on
 pub record Aimed (next next' : List ℕ) (to added : ℕ) : Type 0 where
   pub elsewhere : (n : ℕ) → n ≢ to → slice_index next' n ≡ slice_index next n
-  pub stays : slice_index_or next to 0 ≢ 0 → slice_index next' to ≢ 0
+  pub stays : slice_index next to ≢ 0 → slice_index next' to ≢ 0
   pub lands : added ≢ 0 → slice_index next' to ≢ 0
 
 -- The flows that start at one node are chained, the last first: `head` has one more than the number of the last flow of each node,

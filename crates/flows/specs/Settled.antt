@@ -1,5 +1,5 @@
 -- What spreading leaves in the nodes and the workspace.
-use Rattle.std.specs.Prelude.{◌≡◌, ℕ, ◌*◌, ◌^◌, ◌<◌, ◌≤◌, List, length, get_or, slice_index, slice_index_or}
+use Rattle.std.specs.Prelude.{◌≡◌, ℕ, ◌*◌, ◌^◌, ◌<◌, ◌≤◌, List, length, slice_index_or, slice_index}
 use Rattle.flows.specs.declared.records.FlowRecord.{FlowRecord}
 use Rattle.flows.specs.declared.records.NodeRecord.{NodeRecord}
 use Rattle.flows.specs.Graph.{graph, no_node, relabeled}
@@ -10,7 +10,7 @@ use Rattle.flows.specs.Paths.{Reached, Complete}
 -- the nodes are as before, but for the labels of the first k
 abbrev pub Relabeled : ℕ → List NodeRecord → List NodeRecord → Type 0
 Relabeled k before after =
-    (n : ℕ) → (slice_index_or after n no_node ≡ relabeled (slice_index_or before n no_node) (get_or after n no_node).label)
+    (n : ℕ) → (slice_index_or after n no_node ≡ relabeled (slice_index_or before n no_node) (slice_index_or after n no_node).label)
     × (k ≤ n → slice_index_or after n no_node ≡ slice_index_or before n no_node)
 
 -- the words are as before, but for those of the first k nodes
@@ -23,7 +23,7 @@ pub record Settled (flows : List FlowRecord) (rows : List (List ℕ)) (N F : ℕ
   pub nodes_long : length after ≡ length before
   pub past : Beyond N W W'
   pub words_long : length W' ≡ length W
-  pub small : (n : ℕ) → n < N → (get_or after n no_node).label < 2 ^ 64
+  pub small : (n : ℕ) → n < N → (slice_index_or after n no_node).label < 2 ^ 64
   pub small_marks : SmallMarks (graph after flows rows N F)
   pub fits : Fitting (graph after flows rows N F) W'
   pub certified : Certified (graph after flows rows N F) W'

@@ -1,5 +1,5 @@
 //! The fresh values of one node are led on along its flows.
-ghost use Rattle.std.specs.Prelude.{◌≡◌, ℕ, ◌+◌, ◌*◌, ◌^◌, ◌<◌, ◌≤◌, length, get_or, set, bit_or, slice_index, slice_index_or, slice_set};
+ghost use Rattle.std.specs.Prelude.{◌≡◌, ℕ, ◌+◌, ◌*◌, ◌^◌, ◌<◌, ◌≤◌, length, slice_index_or, bit_or, slice_index, slice_set};
 ghost use Rattle.flows.specs.Charts.{Charted, graph_on};
 ghost use Rattle.flows.specs.Graph.{no_flow, no_node, relabeled};
 ghost use Rattle.flows.specs.Rounds.{Aimed, Grown, GrownBy, Led, Listed, Spread};
@@ -18,8 +18,8 @@ fn put(
     arrival: u32,
 )
     requires { (node < length nodes.old) × (node < length next.old) × (128 * node + 127 < length workspace.old) × (value < 64) × (node < 4096) }
-    ensures nodes { nodes.new ≡ set nodes.old node
-        (relabeled (slice_index_or nodes.old node no_node) (bit_or (get_or nodes.old node no_node).label (2 ^ value))) }
+    ensures nodes { nodes.new ≡ slice_set nodes.old node
+        (relabeled (slice_index_or nodes.old node no_node) (bit_or (slice_index_or nodes.old node no_node).label (2 ^ value))) }
     ensures next { next.new ≡ slice_set next.old node (bit_or (slice_index next.old node) (2 ^ value)) }
     ensures words { workspace.new ≡ slice_set (slice_set workspace.old (128 * node + value) distance) (128 * node + 64 + value) arrival }
 {
@@ -47,7 +47,7 @@ fn lead_on(
     ensures led { Led (graph_on chart.entry nodes.new) workspace.new fresh.now distance number 64 }
     ensures grown { Grown chart.entry.node_count nodes.old nodes.new
         workspace.old workspace.new next.old next.new result }
-    ensures aimed { Aimed next.old next.new (get_or chart.entry.flows.now number no_flow).to result }
+    ensures aimed { Aimed next.old next.new (slice_index_or chart.entry.flows.now number no_flow).to result }
 {
     let flow = chart.flows[number];
     let to = flow.to as usize;
@@ -90,7 +90,7 @@ pub(crate) fn lead_from(
     requires listed { Listed chart.node_count next.old listed.old listed_count }
     requires near { distance < 2 ^ 20 }
     ensures spread { Spread (graph_on chart.entry nodes.new) workspace.new fresh.now next.new distance }
-    ensures led { (f : ℕ) → f < chart.entry.flow_count → (get_or chart.entry.flows.now f no_flow).«from» ≡ node
+    ensures led { (f : ℕ) → f < chart.entry.flow_count → (slice_index_or chart.entry.flows.now f no_flow).«from» ≡ node
         → Led (graph_on chart.entry nodes.new) workspace.new fresh.now distance f 64 }
     ensures grown { GrownBy chart.entry.node_count nodes.old nodes.new
         workspace.old workspace.new next.old next.new }

@@ -1,5 +1,5 @@
 //! The sets of fresh values, and the lists of the nodes that have any.
-ghost use Rattle.std.specs.Prelude.{◌≡◌, ℕ, ◌<◌, ◌≤◌, length, get_or, slice_index, slice_index_or, slice_set};
+ghost use Rattle.std.specs.Prelude.{◌≡◌, ℕ, ◌<◌, ◌≤◌, length, slice_index_or, slice_index, slice_set};
 ghost use Rattle.flows.specs.Graph.{no_node, relabeled};
 ghost use Rattle.flows.specs.Rounds.{Begun, Listed};
 
@@ -20,7 +20,7 @@ pub(crate) fn clear(words: &mut [u32], count: usize)
 fn relabel(nodes: &mut [NodeRecord], node: usize) -> u64
     requires { node < length nodes.old }
     ensures nodes { nodes.new ≡ slice_set nodes.old node (relabeled (slice_index_or nodes.old node no_node) result) }
-    ensures marks { result ≡ (get_or nodes.old node no_node).marks }
+    ensures marks { result ≡ (slice_index_or nodes.old node no_node).marks }
 {
     let marks = nodes[node].marks;
     nodes[node].label = marks;
@@ -65,8 +65,8 @@ fn empty(sets: &mut [u64], list: &[u16], count: usize)
 fn copy(sets: &mut [u64], nodes: &mut [u16], from: &[u64], list: &[u16], count: usize)
     requires room { (count ≤ length list.now) × (count ≤ length nodes.old) }
     requires within { (j : ℕ) → j < count → (slice_index list.now j < length sets.old) × (slice_index list.now j < length «from».now) }
-    ensures listed { (j : ℕ) → j < count → slice_index sets.new (slice_index list.now j) ≡ get_or «from».now (slice_index list.now j) 0 }
-    ensures others { (n : ℕ) → get_or «from».now n 0 ≡ 0 → slice_index sets.old n ≡ 0 → slice_index sets.new n ≡ 0 }
+    ensures listed { (j : ℕ) → j < count → slice_index sets.new (slice_index list.now j) ≡ slice_index «from».now (slice_index list.now j) }
+    ensures others { (n : ℕ) → slice_index «from».now n ≡ 0 → slice_index sets.old n ≡ 0 → slice_index sets.new n ≡ 0 }
     ensures nodes { (j : ℕ) → j < count → slice_index nodes.new j ≡ slice_index list.now j }
 {
     for i in 0..count {

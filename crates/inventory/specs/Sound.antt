@@ -59,8 +59,8 @@ SilentRows types rows = (t v : ℕ) → types ≤ v → slice_index (slice_index
 
 -- where settled, the labels and the workspace are what the flows make of the marks
 abbrev pub SettledLabels : List NodeRecord → List FlowRecord → List (List ℕ) → List ℕ → ℕ → ℕ → Bool → Type 0
-SettledLabels nodes flows rows words nodeCount flowCount settled =
-    ∥ (settled ≡ true → Certified (graph nodes flows rows nodeCount flowCount) words) ∥₁
+SettledLabels nodes flows rows words node_count flow_count settled =
+    ∥ (settled ≡ true → Certified (graph nodes flows rows node_count flow_count) words) ∥₁
 
 -- all of these, of a view
 pub record Sound (v : View) : Type 0 where

@@ -48,18 +48,18 @@ and_all_but v zero s low fits = absurd (omega arith)
 and_all_but zero (suc k) s low fits =
     let half : ((2 ^ suc k - 1) - 1) / 2 ≡ 2 ^ k - 1 = omega (arith, two_pow k, pow_pos k) in
     let even : ((2 ^ suc k - 1) - 1) % 2 ≡ 0 = omega (arith, two_pow k, pow_pos k) in
-    let fits-half : s / 2 < 2 ^ k = omega (arith, two_pow k) in
+    let fits_half : s / 2 < 2 ^ k = omega (arith, two_pow k) in
     let step : bit_and s ((2 ^ suc k - 1) - 1) ≡ (s / 2) * 2 + min (s % 2) 0 =
     and_step s ((2 ^ suc k - 1) - 1)
     ∙ ap₂ (λ (x y : ℕ). bit_and (s / 2) x * 2 + min (s % 2) y) half even
-    ∙ ap (λ (x : ℕ). x * 2 + min (s % 2) 0) (and_mask (s / 2) k ∙ mod-eq_of_lt fits-half) in
+    ∙ ap (λ (x : ℕ). x * 2 + min (s % 2) 0) (and_mask (s / 2) k ∙ mod-eq_of_lt fits_half) in
     omega arith
 and_all_but (suc v) (suc k) s low fits =
     let lower : 2 ^ v < 2 ^ k = pow-lt (omega arith) in
     let half : ((2 ^ suc k - 1) - 2 ^ suc v) / 2 ≡ (2 ^ k - 1) - 2 ^ v = omega (arith, two_pow k, two_pow v) in
     let odd : ((2 ^ suc k - 1) - 2 ^ suc v) % 2 ≡ 1 = omega (arith, two_pow k, two_pow v) in
-    let fits-half : s / 2 < 2 ^ k = omega (arith, two_pow k) in
-    let before : bit_and (s / 2) ((2 ^ k - 1) - 2 ^ v) + (((s / 2) / 2 ^ v) % 2) * 2 ^ v ≡ s / 2 = and_all_but v k (s / 2) (omega arith) fits-half in
+    let fits_half : s / 2 < 2 ^ k = omega (arith, two_pow k) in
+    let before : bit_and (s / 2) ((2 ^ k - 1) - 2 ^ v) + (((s / 2) / 2 ^ v) % 2) * 2 ^ v ≡ s / 2 = and_all_but v k (s / 2) (omega arith) fits_half in
     let step : bit_and s ((2 ^ suc k - 1) - 2 ^ suc v) ≡ bit_and (s / 2) ((2 ^ k - 1) - 2 ^ v) * 2 + min (s % 2) 1 =
     and_step s ((2 ^ suc k - 1) - 2 ^ suc v) ∙ ap₂ (λ (x y : ℕ). bit_and (s / 2) x * 2 + min (s % 2) y) half odd in
     let worth : ((s / 2 ^ suc v) % 2) * 2 ^ suc v ≡ ((((s / 2) / 2 ^ v) % 2) * 2 ^ v) * 2 =

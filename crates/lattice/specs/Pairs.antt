@@ -273,13 +273,13 @@ module _ (p q : Order) (lp : Lattice p) (lq : Lattice q) where
       m_in = code_inside a b a_in b_in
 
       under : (x : ℕ) → x < pair_size p q → T (p.below (left q x) a) → T (q.below (right q x) b) → T ((paired p q).below x (code (columns q) a b))
-      under x x-in s t =
+      under x x_in s t =
           elim (cases_eq a 0) [
             | inl e ↦ paired_bottom x _ (left_is_zero (columns q) pos x (below_bottom p lp _ (subst (λ y. T (p.below (left q x) y)) e s))) m_in
             | inr k ↦ elim (cases_eq b 0) [
               | inl e ↦ paired_bottom x _ (right_is_zero (columns q) pos x (below_bottom q lq _ (subst (λ y. T (q.below (right q x) y)) e t))) m_in
               | inr n ↦
-                  below_parts x _ x-in m_in
+                  below_parts x _ x_in m_in
                   (subst (λ y. T (p.below (left q x) y)) (sym (left_code (columns q) pos a b k n (omega (arith, b_in)))) s)
                   (subst (λ y. T (q.below (right q x) y)) (sym (right_code (columns q) pos a b k n (omega (arith, b_in)))) t)
             ]
@@ -514,19 +514,19 @@ module _ (p q : Order) (lp : Lattice p) (lq : Lattice q) (n : ℕ) (e : Some n �
     in_b : b < pair_size p q
     in_b = omega (arith, size_is, b_in)
 
-    module _ (al ar bl br : ℕ) (al-is : al ≡ left_part (k - 1) a) (ar-is : ar ≡ right_part (k - 1) a)
-        (bl_is : bl ≡ left_part (k - 1) b) (br-is : br ≡ right_part (k - 1) b) where
+    module _ (al ar bl br : ℕ) (al_is : al ≡ left_part (k - 1) a) (ar_is : ar ≡ right_part (k - 1) a)
+        (bl_is : bl ≡ left_part (k - 1) b) (br_is : br ≡ right_part (k - 1) b) where
       left_a : al ≡ left q a
-      left_a = al-is ∙ ap (λ w. left_part (w - 1) a) ks
+      left_a = al_is ∙ ap (λ w. left_part (w - 1) a) ks
 
       right_a : ar ≡ right q a
-      right_a = ar-is ∙ ap (λ w. right_part (w - 1) a) ks
+      right_a = ar_is ∙ ap (λ w. right_part (w - 1) a) ks
 
       left_b : bl ≡ left q b
       left_b = bl_is ∙ ap (λ w. left_part (w - 1) b) ks
 
       right_b : br ≡ right q b
-      right_b = br-is ∙ ap (λ w. right_part (w - 1) b) ks
+      right_b = br_is ∙ ap (λ w. right_part (w - 1) b) ks
 
       pub pair_below_is : (x y : Bool) → x ≡ p.below al bl → y ≡ q.below ar br → (x && y) ≡ (pair p q).below a b
       pair_below_is x y s t =

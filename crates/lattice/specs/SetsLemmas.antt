@@ -89,10 +89,10 @@ pub least_is : (p : ℕ → Bool) (n m : ℕ) → m < n → T (p m) → ((k : �
 least_is p n m lt h low =
     elim (first p n) [
       | absent _ none ↦ absurd (none m lt h)
-      | present w q l t first-w ↦
+      | present w q l t first_w ↦
           elim (cases_lt w m) [
             | inl less ↦ absurd (low w less t)
-            | inr g ↦ elim (cases_lt m w) [ inl less ↦ absurd (first-w m less h) | inr f ↦ q ∙ ap Some (omega arith) ]
+            | inr g ↦ elim (cases_lt m w) [ inl less ↦ absurd (first_w m less h) | inr f ↦ q ∙ ap Some (omega arith) ]
           ]
     ]
 

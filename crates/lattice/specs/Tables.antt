@@ -96,21 +96,21 @@ module _ (rows : List ℕ) where
   module _ (l : Ordered (table rows)) (clean : Clean rows) (a b : ℕ) (a_in : a < length rows) (b_in : b < length rows) where
     -- the join of a and b is the value whose row is what their rows share
     joins_shared : (k : ℕ) → k < length rows → Joins (table rows) a b k → slice_index rows k ≡ bit_and (slice_index rows a) (slice_index rows b)
-    joins_shared k k-in h =
-        shared_and (length rows) (slice_index rows a) (slice_index rows b) (slice_index rows k) (clean a a_in) (clean b b_in) (clean k k-in)
+    joins_shared k k_in h =
+        shared_and (length rows) (slice_index rows a) (slice_index rows b) (slice_index rows k) (clean a a_in) (clean b b_in) (clean k k_in)
         (λ v lt t.
-        let up = has_table k v k-in lt t in
+        let up = has_table k v k_in lt t in
         (table_has a v (l.transitive a k v h.above_left up), table_has b v (l.transitive b k v h.above_right up)))
         (λ v lt s t. table_has k v (h.least v (has_table a v a_in lt s) (has_table b v b_in lt t)))
 
     shared_joins : (k : ℕ) → k < length rows → slice_index rows k ≡ bit_and (slice_index rows a) (slice_index rows b) → Joins (table rows) a b k
-    shared_joins k k-in e =
-        let own = and_shared (slice_index rows a) (slice_index rows b) (slice_index rows k) k e (table_has k k (l.reflexive k k-in)) in
+    shared_joins k k_in e =
+        let own = and_shared (slice_index rows a) (slice_index rows b) (slice_index rows k) k e (table_has k k (l.reflexive k k_in)) in
         record {
-          above_left = has_table a k a_in k-in own.0;
-          above_right = has_table b k b_in k-in own.1;
+          above_left = has_table a k a_in k_in own.0;
+          above_right = has_table b k b_in k_in own.1;
           least = λ x s t.
-              has_table k x k-in (table_inside a x s).1
+              has_table k x k_in (table_inside a x s).1
               (shared_has (slice_index rows a) (slice_index rows b) (slice_index rows k) x e (table_has a x s) (table_has b x t));
         }
 
@@ -138,7 +138,7 @@ bit_exists m d h lt = go (first (has d) m)
     go : First (has d) m → (v : ℕ) × (v < m) × T (has d v)
     go (present v e l t low) = (v, l, t)
     go (absent e low) =
-        let zero-d : d ≡ 0 = has_ext m d 0 lt (pow_pos m) (λ v l. same_tests (has d v) (has 0 v) (λ t. absurd (low v l t)) (λ t. absurd (has_high 0 v (pow_pos v) t))) in
+        let zero_d : d ≡ 0 = has_ext m d 0 lt (pow_pos m) (λ v l. same_tests (has d v) (has 0 v) (λ t. absurd (low v l t)) (λ t. absurd (has_high 0 v (pow_pos v) t))) in
         let z : ⊥ = omega arith in
         absurd z
 
@@ -166,9 +166,9 @@ pub high_stray : (n row : ℕ) → n ≤ 64 → row < 2 ^ 64 → 2 ^ n ≤ row �
 unfolding stray_bits
 high_stray n row le fits high =
     let whole : 2 ^ 64 ≡ 2 ^ (64 - n) * 2 ^ n = ap (λ x. 2 ^ x) (let e : 64 ≡ (64 - n) + n = omega arith in e) ∙ pow-add 2 (64 - n) n in
-    let some-part : 1 ≤ row / 2 ^ n = le-div 1 row (2 ^ n) (pow_pos n) (omega arith) in
-    let part-fits : row / 2 ^ n < 2 ^ (64 - n) = div_below row (2 ^ n) (2 ^ (64 - n)) (pow_pos n) (subst (λ x. row < x) whole fits) in
-    let w = bit_exists (64 - n) (row / 2 ^ n) some-part part-fits in
+    let some_part : 1 ≤ row / 2 ^ n = le-div 1 row (2 ^ n) (pow_pos n) (omega arith) in
+    let part_fits : row / 2 ^ n < 2 ^ (64 - n) = div_below row (2 ^ n) (2 ^ (64 - n)) (pow_pos n) (subst (λ x. row < x) whole fits) in
+    let w = bit_exists (64 - n) (row / 2 ^ n) some_part part_fits in
     let lt : w.0 < 64 - n = w.1 in
     found_some (λ j. nat_le n j && has row j) 64 (n + w.0) (omega arith)
     (and_T (nat_le n (n + w.0)) (has row (n + w.0)) (le→leb n (n + w.0) (omega arith)) (subst T (has_above row n w.0) w.2))
@@ -371,25 +371,25 @@ module _ (stored : List ℕ) (n : ℕ) (fits : n ≤ length stored) (law : ∥ L
       → ((has (slice_index stored x) a && has (slice_index stored x) b) && has (slice_index stored best) x) ≡ true
       → Best (table (take n stored)) a b x (x + 1)
   search_take a b best x h k lt w e =
-      let best-in : best < n = omega (arith, w.0, same_length) in
+      let best_in : best < n = omega (arith, w.0, same_length) in
       let u = T_and (has (slice_index stored x) a && has (slice_index stored x) b) (has (slice_index stored best) x) (from_true _ e) in
       let v = T_and (has (slice_index stored x) a) (has (slice_index stored x) b) u.0 in
       best_take (table (take n stored)) lawful a b best x w
       (subst T (prefix_below stored n fits x a lt h) v.0)
       (subst T (prefix_below stored n fits x b lt k) v.1)
-      (subst T (prefix_below stored n fits best x best-in lt) u.1)
+      (subst T (prefix_below stored n fits best x best_in lt) u.1)
 
   pub search_keep : (a b best x : ℕ) → a < n → b < n → x < n → Best (table (take n stored)) a b best x
       → ((has (slice_index stored x) a && has (slice_index stored x) b) && has (slice_index stored best) x) ≡ false
       → Best (table (take n stored)) a b best (x + 1)
   search_keep a b best x h k lt w e =
-      let best-in : best < n = omega (arith, w.0, same_length) in
+      let best_in : best < n = omega (arith, w.0, same_length) in
       best_keep (table (take n stored)) lawful a b best x w
       (λ p q r. from_false _ e
       (and_T (has (slice_index stored x) a && has (slice_index stored x) b) (has (slice_index stored best) x)
       (and_T (has (slice_index stored x) a) (has (slice_index stored x) b)
       (subst T (sym (prefix_below stored n fits x a lt h)) p) (subst T (sym (prefix_below stored n fits x b lt k)) q))
-      (subst T (sym (prefix_below stored n fits best x best-in lt)) r)))
+      (subst T (sym (prefix_below stored n fits best x best_in lt)) r)))
 
   pub search_end : (a b best x : ℕ) → a < n → b < n → n ≤ x → Best (table (take n stored)) a b best x → Some best ≡ meet (table (take n stored)) a b
   search_end a b best x h k le w =

@@ -1,5 +1,5 @@
 -- The ledger: what a list of calls makes of a fresh inventory, from the calls and their arguments alone. Assumes nothing.
-use Rattle.std.specs.Prelude.{◌≡◌, ℕ, zero, suc, ◌-◌, ◌/◌, ◌<◌, ◌≤◌, min, max, Bool, true, false, cond, not, ◌&&◌, T, ltb, List, [], ◌∷◌, ◌++◌, length, take, Some, None, Option, ◌==◌, nat_lt, slice_index, slice_index_or, slice_set}
+use Rattle.std.specs.Prelude.{◌≡◌, ℕ, zero, suc, ◌-◌, ◌/◌, ◌<◌, ◌≤◌, min, max, Bool, true, false, cond, not, ◌&&◌, T, List, [], ◌∷◌, ◌++◌, length, take, Some, None, Option, ◌==◌, nat_lt, slice_index, slice_index_or, slice_set}
 use Rattle.lattice.specs.Sets.{has, with, without, every}
 use Rattle.lattice.specs.Schemes.{Scheme, scheme_sizes}
 use Rattle.lattice.specs.Faults.{or_else}
@@ -83,7 +83,7 @@ abbrev pub stands : List Flow → ℕ → ℕ → ℕ → Bool
 stands fs a b s = elim (flow_number fs a b s) [ Some k ↦ true | None ↦ false ]
 
 abbrev pub good_row : ℕ → List ℕ → Bool
-good_row n row = (length row == n && slice_index row 0 == 0) && every (λ v. ltb (slice_index row v) n) n
+good_row n row = (length row == n && slice_index row 0 == 0) && every (λ v. nat_lt (slice_index row v) n) n
 
 abbrev pub good_value : ℕ → ℕ → Bool
 good_value n v = nat_lt 0 v && nat_lt v n

@@ -65,7 +65,7 @@ set_members word (Ok s) e = elim (cases_Bool (is_dash word)) [ inl d ↦ empty d
   where
     empty : is_dash word ≡ true → Members s word
     empty d v =
-        let zero-set : ◌≡◌ {A = Result ℕ NumberFault} (Ok s) (Ok 0) = e ∙ cond-true (is_dash word) (Ok 0) (gather 0 (pieces word)) d in
+        let zero_set : ◌≡◌ {A = Result ℕ NumberFault} (Ok s) (Ok 0) = e ∙ cond-true (is_dash word) (Ok 0) (gather 0 (pieces word)) d in
         let same : s ≡ 0 = cc in
         (λ h. absurd (none_in v (rw same at h)), λ m. absurd (dash_empty v (rw (dash word d) at m)))
 

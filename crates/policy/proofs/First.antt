@@ -47,8 +47,8 @@ outside_head d (w ∷ ws) h t c k e =
 
 module _ (d : Draft) (ws : List ℕ) (some : 1 ≤ length ws) (count : d.count ≡ 0) (total : d.total ≡ length ws) (w : Word) (ew : w ≡ word_of (get_or ws 0 0)) where
   pub begun_stray : (x : Reason) → x ≡ stray_reason w → ((k : Kind) → w ≡ Head k → ⊥) → goes d [] [] ws ≡ Err (record { reason = x; place = 0 })
-  begun_stray x ex no-head =
-      let f : fault_outside d.count w ≡ Some x = by w no-head ex in
+  begun_stray x ex no_head =
+      let f : fault_outside d.count w ≡ Some x = by w no_head ex in
       let p : d.total - length ws ≡ 0 = omega arith in
       outside_stop d ws some x (ap (fault_outside d.count) (sym ew) ∙ f) ∙ ap (λ i. Err (record { reason = x; place = i })) p
     where
@@ -117,9 +117,9 @@ first_stray d e ws left t b nz w ew x ex =
     let low : left < length ws = b.shorter in
     let i = length ws - left in
     let lt : i < length ws = omega arith in
-    let more-words : drop i ws ≡ get_or ws i 0 ∷ drop (i + 1) ws = drop_more ws i 0 lt in
+    let more_words : drop i ws ≡ get_or ws i 0 ∷ drop (i + 1) ws = drop_more ws i 0 lt in
     let n : length (drop i ws) ≡ left = length-drop i ws ∙ omega arith in
-    let head_is : get_or (drop i ws) 0 0 ≡ get_or ws i 0 = ap (λ u. get_or u 0 0) more-words in
+    let head_is : get_or (drop i ws) 0 0 ≡ get_or ws i 0 = ap (λ u. get_or u 0 0) more_words in
     let f : fault_outside e.count (word_of (get_or (drop i ws) 0 0)) ≡ Some x =
     ap (λ v. fault_outside e.count (word_of v)) head_is ∙ ap (fault_outside e.count) (sym ew) ∙ stray_fault e.count b.some w ∙ ap Some (sym ex) in
     let et = b.total in

@@ -219,14 +219,14 @@ module _ (s : Scheme) (rs : List ClauseRecord) (i : ℕ) (label t : Label) (usua
   pub turn_decides : (j by : ℕ) (answer : Bool) → Passed s rs i t usual j → j < (get_or rs i no_record).end →
       answer ≡ allows s (tree rs j) t → by ≡ decider s j (tree rs j) t → not (beq answer usual) ≡ true →
       (answer ≡ allows s (tree rs i) label) × (by ≡ decider s i (tree rs i) label)
-  turn_decides j by answer before low is by-is other =
+  turn_decides j by answer before low is by_is other =
       let after : Clauses = clauses_from 0 rs (get_or rs j no_record).end (get_or rs i no_record).end in
-      let differs-here : allows s (tree rs j) t ≡ not usual = sym is ∙ differs answer usual other in
+      let differs_here : allows s (tree rs j) t ≡ not usual = sym is ∙ differs answer usual other in
       let rest_is : rest s rs i t usual (i + 1) ≡ not usual =
-      before.same ∙ ap (λ (es : Clauses). exceptions s usual es t) (next_is j low) ∙ exceptions_other s usual (tree rs j) after t differs-here in (
+      before.same ∙ ap (λ (es : Clauses). exceptions s usual es t) (next_is j low) ∙ exceptions_other s usual (tree rs j) after t differs_here in (
         differs answer usual other ∙ sym (answer_is ∙ rest_is),
-        by-is
-            ∙ sym (first_other_other s usual j (tree rs j) after t differs-here)
+        by_is
+            ∙ sym (first_other_other s usual j (tree rs j) after t differs_here)
             ∙ ap (λ (es : Clauses). first_other s usual j es t) (sym (next_is j low))
             ∙ sym before.same_by
             ∙ sym (cond-false (beq (rest s rs i t usual (i + 1)) usual) i (rest_by s rs i t usual (i + 1)) (beq_other (rest s rs i t usual (i + 1)) usual rest_is))
@@ -239,15 +239,15 @@ module _ (s : Scheme) (rs : List ClauseRecord) (i : ℕ) (label t : Label) (usua
   turn_passes j next answer before low is same ends =
       let within : j < length rs = omega (arith, (asked.nested i asked.inside).within) in
       let after : Clauses = clauses_from 0 rs (get_or rs j no_record).end (get_or rs i no_record).end in
-      let agrees-here : allows s (tree rs j) t ≡ usual = sym is ∙ agrees answer usual same in
+      let agrees_here : allows s (tree rs j) t ≡ usual = sym is ∙ agrees answer usual same in
       record {
         above = omega (arith, before.above, (asked.nested j within).behind, ends);
         same =
             before.same ∙ ap (λ (es : Clauses). exceptions s usual es t) (next_is j low)
-            ∙ exceptions_same s usual (tree rs j) after t agrees-here ∙ ap (rest s rs i t usual) (sym ends);
+            ∙ exceptions_same s usual (tree rs j) after t agrees_here ∙ ap (rest s rs i t usual) (sym ends);
         same_by =
             before.same_by ∙ ap (λ (es : Clauses). first_other s usual j es t) (next_is j low)
-            ∙ first_other_same s usual j (tree rs j) after t agrees-here
+            ∙ first_other_same s usual j (tree rs j) after t agrees_here
             ∙ ap (λ (n : ℕ). first_other s usual n after t) (tree_count rs asked.nested j within) ∙ ap (rest_by s rs i t usual) (sym ends);
       }
 

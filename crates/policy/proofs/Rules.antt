@@ -48,7 +48,7 @@ module _ (s : Scheme) where
           | inr missed ↦ allow_misses missed
           | inl covers ↦ elim (and_cases (covered s t l) (all_allow s es t) h) [
             | inl missed ↦ absurd (both_ways (covered s t l) missed covers)
-            | inr not-all ↦ let found = some_denies_derived es t not-all in allow_excepts covers found.0 found.1 found.2
+            | inr not_all ↦ let found = some_denies_derived es t not_all in allow_excepts covers found.0 found.1 found.2
           ]
         ]
     denies_derived (deny l es) t h =

@@ -30,7 +30,7 @@ abbrev pub other : Kind → Kind
 other Allow = Deny
 other Deny = Allow
 
--- the exceptions of a clause of kind k are well_formed
+-- the exceptions of a clause of kind k are well-formed
 abbrev pub others : Sizes → Kind → Clauses → Bool
 others z Allow es = all_deny z es
 others z Deny es = all_allow z es
@@ -200,7 +200,7 @@ module _ (z : Sizes) (small : Small z) (w : ℕ) where
   outside_head h k y (more d ds) ey g c e ew = absurd (by (eqb h 0) refl e)
     where
       by : (b : Bool) → eqb h 0 ≡ b → cond b None (Some MisplacedWord) ≡ None → ⊥
-      by true eb q = let zero-h = eqb-true _ _ eb in omega (arith, count_pos d)
+      by true eb q = let zero_h = eqb-true _ _ eb in omega (arith, count_pos d)
       by false eb q = let z : ◌≡◌ {A = ℕ} 0 1 = cc in omega arith
 
   module _ (f : Frame) (fs : List Frame) (y : Node) (ys : List Node) (heads : ℕ) (g : GoodFrame z (suc (length fs)) f y) (u : GoodUnder z f.kind fs ys) (n : heads ≡ count_open (f ∷ fs) (y ∷ ys)) (few : heads ≤ 256) where

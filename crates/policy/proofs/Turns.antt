@@ -17,8 +17,8 @@ pub overlap_taken : (o : Order) (label value v sum next part : ℕ) (m j : Optio
     sum ≡ gather (joined o value) 0 label v → m ≡ meet o value v → part ≡ unwrap_or m 0 → j ≡ join o sum part → next ≡ unwrap_or j 0 →
     next ≡ gather (joined o value) 0 label (v + 1)
 overlap_taken o label value v sum next part m j holds before met parted joins is =
-    let met-is : part ≡ value_or_bottom (meet o value v) = parted ∙ value_or_0 m ∙ ap value_or_bottom met in
-    is ∙ value_or_0 j ∙ ap value_or_bottom joins ∙ ap (λ (x : ℕ). value_or_bottom (join o sum x)) met-is
+    let met_is : part ≡ value_or_bottom (meet o value v) = parted ∙ value_or_0 m ∙ ap value_or_bottom met in
+    is ∙ value_or_0 j ∙ ap value_or_bottom joins ∙ ap (λ (x : ℕ). value_or_bottom (join o sum x)) met_is
     ∙ ap (λ (x : ℕ). joined o value x v) before ∙ sym (gather_taken (joined o value) 0 label v holds)
 
 pub overlap_passed : (o : Order) (label value v sum next : ℕ) → has label v ≡ false →

@@ -41,12 +41,12 @@ minimal_evidence s laws c t h = record {
 
 pub just_verdict : (s : Scheme) → Lattices s → (c : Clause) (t : Label) (passed : Bool) (by left : ℕ) →
     passed ≡ allows s c t → by ≡ decider s 0 c t → left ≡ evidence s c t → Just s c t passed by left
-just_verdict s laws c t passed by left passed_is by-is left_is = record {
+just_verdict s laws c t passed by left passed_is by_is left_is = record {
   allowed = (λ h. allows_derived s c t (sym passed_is ∙ h), λ derived. passed_is ∙ allows_sound s c t derived);
   denied = (λ h. denies_derived s c t (sym passed_is ∙ not_true passed h), λ derived. ap not (passed_is ∙ denies_sound s c t derived));
   covers = λ h u under. allows_antitone s laws c u t under (sym passed_is ∙ h);
   fewer = λ h d sub. allows_subset s laws c t d t.types sub (sym passed_is ∙ h);
-  decided = by-is;
+  decided = by_is;
   none_left = λ h. left_is ∙ evidence_none s c t (sym passed_is ∙ h);
   minimal = λ h. subst (Minimal s c t) (sym left_is) (minimal_evidence s laws c t (sym passed_is ∙ h));
 }

@@ -1,6 +1,6 @@
 -- Clauses as records in a row. The exceptions of a clause are the records from its number + 1 on, each next one at the end of the one
 -- before, up to its own end. Assumes nothing.
-use Rattle.std.specs.Prelude.{◌≡◌, ℕ, ◌+◌, ◌<◌, ◌≤◌, Bool, true, false, cond, List, [], ◌∷◌, length, get_or, ◌==◌, nat_lt, slice_index_or}
+use Rattle.std.specs.Prelude.{◌≡◌, ℕ, ◌+◌, ◌<◌, ◌≤◌, Bool, true, false, cond, List, [], ◌∷◌, length, slice_index_or, ◌==◌, nat_lt}
 use Rattle.std.specs.Bool.{beq}
 use Rattle.lattice.specs.Schemes.{Scheme}
 use Rattle.policy.specs.Clauses.{Label, Clause, Clauses, allow, deny, none, more, allows, all_allow, some_allows, decider, first_denying, first_allowing}
@@ -39,13 +39,13 @@ record_at rs i = slice_index_or rs i no_record
 
 -- the clause of the record with the number i
 abbrev pub tree : List ClauseRecord → ℕ → Clause
-tree rs i = begun (slice_index_or rs i no_record) (clauses_from 0 rs (i + 1) (get_or rs i no_record).end)
+tree rs i = begun (slice_index_or rs i no_record) (clauses_from 0 rs (i + 1) (slice_index_or rs i no_record).end)
 
 -- each record ends behind its own number and inside the row, and those that begin inside a clause end inside it
 pub record NestedAt (rs : List ClauseRecord) (i : ℕ) : Type 0 where
-  pub behind : i < (get_or rs i no_record).end
-  pub within : (get_or rs i no_record).end ≤ length rs
-  pub inner : (j : ℕ) → i < j → j < (get_or rs i no_record).end → (get_or rs j no_record).end ≤ (get_or rs i no_record).end
+  pub behind : i < (slice_index_or rs i no_record).end
+  pub within : (slice_index_or rs i no_record).end ≤ length rs
+  pub inner : (j : ℕ) → i < j → j < (slice_index_or rs i no_record).end → (slice_index_or rs j no_record).end ≤ (slice_index_or rs i no_record).end
 
 abbrev pub Nested : List ClauseRecord → Type 0
 Nested rs = (i : ℕ) → i < length rs → NestedAt rs i

@@ -3,7 +3,7 @@
 --   events    each call with its answer
 --   Matched   every call has an answer, exactly where it is one of the ten
 --   Leaves    what a call leaves in the memory
---   DoneBy   the calls were made one after another, and answered so
+--   DoneBy    the calls were made one after another, and answered so
 use Rattle.std.specs.Prelude.{◌≡◌, ℕ, List, [], ◌∷◌, take, is_some, Some, None, vec_items, Option}
 use Rattle.std.proofs.Math.Option.{none, some}
 use Rattle.std.proofs.Math.ListN.{get_elem?}

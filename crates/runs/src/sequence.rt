@@ -14,28 +14,28 @@ use lattice::{Refusal, Sizes};
 use policy::{Policy, Verdict, Vocabulary};
 use std::alloc::{AllocError, Global};
 
-fn plain(res: Result<(), Refusal>) -> Answer
-    ensures { answer_of result ≡ plain_answer res }
+fn plain(outcome: Result<(), Refusal>) -> Answer
+    ensures { answer_of result ≡ plain_answer outcome }
 {
-    match res {
+    match outcome {
         Ok(()) => Answer::Done,
         Err(refusal) => Answer::Refused(refusal),
     }
 }
 
-fn numbered(res: Result<usize, Refusal>) -> Answer
-    ensures { answer_of result ≡ number_answer res }
+fn numbered(outcome: Result<usize, Refusal>) -> Answer
+    ensures { answer_of result ≡ number_answer outcome }
 {
-    match res {
+    match outcome {
         Ok(number) => Answer::Numbered(number),
         Err(refusal) => Answer::Refused(refusal),
     }
 }
 
-fn judged(res: Result<Verdict, Refusal>) -> Answer
-    ensures { answer_of result ≡ judged_answer res }
+fn judged(outcome: Result<Verdict, Refusal>) -> Answer
+    ensures { answer_of result ≡ judged_answer outcome }
 {
-    match res {
+    match outcome {
         Ok(verdict) => Answer::Judged(verdict),
         Err(refusal) => Answer::Refused(refusal),
     }

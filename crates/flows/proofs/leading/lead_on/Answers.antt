@@ -19,7 +19,7 @@ overflow_add-added c = omega (arith, c.loop-rest.invariant.grown.count, held_mos
 pub returns-then-nodes-to : goal.returns-then-nodes-to
 returns-then-nodes-to c = record {
   spread = c.requires.spread;
-  led = λ w lw h some open-end. absurd (true≢false (sym c.if-nodes-to.true ∙ open-end));
+  led = λ w lw h some open_end. absurd (true≢false (sym c.if-nodes-to.true ∙ open_end));
   grown = grown_none _ _ _ _;
   aimed = record { elsewhere = λ n ne. refl; stays = λ s. s; lands = λ s. absurd (s refl) };
 }

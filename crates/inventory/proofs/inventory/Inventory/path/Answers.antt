@@ -78,12 +78,12 @@ returns c =
     let h = sym c.in_ok-check_path.ensures in
     let inside = sym c.if-not-contains.ensures in
     let fits = c.walk.ensures.fits.0 c.if-not-walk.false in
-    let hops-are = c.walk.ensures.hops c.if-not-walk.false in
-    let answered = subst (λ (fs : List ℕ). Answered (ledger_of v) (path c.args.node c.args.value room) (shown fs)) (sym hops-are)
+    let hops_are = c.walk.ensures.hops c.if-not-walk.false in
+    let answered = subst (λ (fs : List ℕ). Answered (ledger_of v) (path c.args.node c.args.value room) (shown fs)) (sym hops_are)
     (answer_shown v s c.args.node c.args.value room h inside fits) in
     record {
       answered = answered;
       promised = path_promised v s c.args.node c.args.value room _ answered;
-      told = ap shown hops-are ∙ sym (told_shown v s c.args.node c.args.value room h inside fits);
+      told = ap shown hops_are ∙ sym (told_shown v s c.args.node c.args.value room h inside fits);
       rest = (fits, c.walk.ensures.rest);
     }
