@@ -9,6 +9,8 @@ mod inventories;
 mod lattices;
 #[cfg(test)]
 mod office;
+#[cfg(test)]
+mod scripts;
 pub mod table;
 #[cfg(test)]
 mod words;
