@@ -3,7 +3,7 @@
 /// A node: the attributes declared for it, its marks, the label found for it, and whether it was verified.
 ///
 /// Each set of values is a number: bit `v` says that value `v` is in the set.
-#[derive(Clone, Copy, PartialEq, Eq, Debug)]
+#[derive(Clone, Copy, PartialEq, Eq, Debug, Default)]
 pub struct NodeRecord {
     pub store: u64,
     pub purpose: u64,
@@ -17,7 +17,7 @@ pub struct NodeRecord {
 }
 
 /// A flow from one node to another, by a step that makes a value of each value.
-#[derive(Clone, Copy, PartialEq, Eq, Debug)]
+#[derive(Clone, Copy, PartialEq, Eq, Debug, Default)]
 pub struct FlowRecord {
     pub from: u16,
     pub to: u16,

@@ -1,65 +1,66 @@
 //! Why a call is refused, and where what it was given is at fault.
-ghost use Rattle.std.specs.Prelude.{◌≡◌};
+ghost use Rattle.std.specs.Prelude.{◌≡◌, Some};
 ghost use Rattle.refusals.specs.Refusals.{number_of, layer_of};
 ghost use Rattle.refusals.specs.Texts.{words_of, layer_word};
 
+use std::error::Error;
 use std::fmt;
 
 /// The reasons, in the order in which they are tried.
 #[derive(Clone, Copy, PartialEq, Eq, Debug)]
 pub enum Reason {
     /// The table has fewer than 2 or more than 64 rows.
-    RowCount,
+    RowCount = 1,
     /// The row has a bit at or above the row count.
-    StrayBit,
+    StrayBit = 2,
     /// The row lacks its own bit.
-    NotReflexive,
+    NotReflexive = 3,
     /// The value and another are each at or below the other.
-    NotAntisymmetric,
+    NotAntisymmetric = 4,
     /// The value is below a second and that below a third, yet the value is not below the third.
-    NotTransitive,
+    NotTransitive = 5,
     /// Value 0 is not at or below the value, or the last value is not at or above it.
-    NotBounded,
+    NotBounded = 6,
     /// The value and another have no least upper bound.
-    NoJoin,
+    NoJoin = 7,
     /// The ladder has fewer than 2 or more than 64 levels.
-    LadderSize,
+    LadderSize = 8,
     /// The pair would have more than 64 values.
-    PairSize,
+    PairSize = 9,
     /// There are no words, or more than 4,096.
-    WordCount,
+    WordCount = 10,
     /// The word has none of the five kinds, or a bit that must be 0.
-    BadWord,
+    BadWord = 11,
     /// A word of this kind cannot stand here, or the words end too early.
-    MisplacedWord,
+    MisplacedWord = 12,
     /// The exception has the kind of the clause around it.
-    SameKind,
+    SameKind = 13,
     /// There is no such attribute, or it has no such value past its bottom.
-    BadValue,
+    BadValue = 14,
     /// The value does not come after the one before it.
-    NotRising,
+    NotRising = 15,
     /// The clause is deeper than 16, or one more than 256.
-    TooNested,
+    TooNested = 16,
     /// There is no such node.
-    NoNode,
+    NoNode = 17,
     /// There is no such step.
-    NoStep,
+    NoStep = 18,
     /// A value, a declared set or a row that the sizes do not have.
-    BadArgument,
+    BadArgument = 19,
     /// This flow stands already.
-    FlowStands,
+    FlowStands = 20,
     /// No such flow stands.
-    NoFlow,
+    NoFlow = 21,
     /// All node room, flow room or the 32 steps are in use.
-    NoRoom,
+    NoRoom = 22,
     /// The inventory was changed since it was settled.
-    Unsettled,
+    Unsettled = 23,
     /// The scheme, the policy and the inventory differ in a size.
-    SizesDiffer,
+    SizesDiffer = 24,
     /// The value is not in the node's label.
-    NotInLabel,
+    NotInLabel = 25,
     /// The piece has fewer entries than the path has flows.
-    ShortPiece,
+    ShortPiece = 26,
 }
 
 /// The part of the library that refused.
@@ -80,49 +81,50 @@ pub struct Refusal {
 }
 
 impl Reason {
+    /// The refusal for this reason, with its place.
+    pub fn at(self, place: usize) -> Refusal
+        ensures { result ≡ record { reason = self; place = place } }
+    {
+        Refusal {
+            reason: self,
+            place,
+        }
+    }
+
     /// The number by which the reason is known.
     pub fn number(self) -> u8
         ensures { result ≡ number_of self }
     {
-        match self {
-            Reason::RowCount => 1,
-            Reason::StrayBit => 2,
-            Reason::NotReflexive => 3,
-            Reason::NotAntisymmetric => 4,
-            Reason::NotTransitive => 5,
-            Reason::NotBounded => 6,
-            Reason::NoJoin => 7,
-            Reason::LadderSize => 8,
-            Reason::PairSize => 9,
-            Reason::WordCount => 10,
-            Reason::BadWord => 11,
-            Reason::MisplacedWord => 12,
-            Reason::SameKind => 13,
-            Reason::BadValue => 14,
-            Reason::NotRising => 15,
-            Reason::TooNested => 16,
-            Reason::NoNode => 17,
-            Reason::NoStep => 18,
-            Reason::BadArgument => 19,
-            Reason::FlowStands => 20,
-            Reason::NoFlow => 21,
-            Reason::NoRoom => 22,
-            Reason::Unsettled => 23,
-            Reason::SizesDiffer => 24,
-            Reason::NotInLabel => 25,
-            Reason::ShortPiece => 26,
-        }
+        self as u8
     }
 
     /// The layer that refuses for this reason.
     pub fn layer(self) -> Layer
         ensures { result ≡ layer_of self }
     {
-        match self.number() {
-            0..=9 => Layer::Lattice,
-            10..=12 => Layer::Words,
-            13..=16 => Layer::Clauses,
-            _ => Layer::Inventory,
+        match self {
+            Reason::RowCount
+            | Reason::StrayBit
+            | Reason::NotReflexive
+            | Reason::NotAntisymmetric
+            | Reason::NotTransitive
+            | Reason::NotBounded
+            | Reason::NoJoin
+            | Reason::LadderSize
+            | Reason::PairSize => Layer::Lattice,
+            Reason::WordCount | Reason::BadWord | Reason::MisplacedWord => Layer::Words,
+            Reason::SameKind | Reason::BadValue | Reason::NotRising | Reason::TooNested =>
+                Layer::Clauses,
+            Reason::NoNode
+            | Reason::NoStep
+            | Reason::BadArgument
+            | Reason::FlowStands
+            | Reason::NoFlow
+            | Reason::NoRoom
+            | Reason::Unsettled
+            | Reason::SizesDiffer
+            | Reason::NotInLabel
+            | Reason::ShortPiece => Layer::Inventory,
         }
     }
 
@@ -179,7 +181,17 @@ impl Layer {
     }
 }
 
+impl fmt::Display for Reason {
+    ghost output = { λ r. Some (words_of r) };
+
+    fn fmt<W: fmt::Write>(&self, f: &mut fmt::Formatter<W>) -> fmt::Result {
+        f.write_str(self.words())
+    }
+}
+
 impl fmt::Display for Layer {
+    ghost output = { λ l. Some (layer_word l) };
+
     fn fmt<W: fmt::Write>(&self, f: &mut fmt::Formatter<W>) -> fmt::Result {
         f.write_str(self.word())
     }
@@ -190,10 +202,12 @@ impl fmt::Display for Refusal {
         let number = self.reason.number();
         let place = self.place;
         let layer = self.reason.layer();
-        let words = self.reason.words();
+        let reason = self.reason;
         write!(
             f,
-            "refusal {number} at place {place}, layer {layer}: {words}"
+            "refusal {number} at place {place}, layer {layer}: {reason}"
         )
     }
 }
+
+impl Error for Refusal {}
