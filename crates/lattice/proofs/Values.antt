@@ -62,7 +62,7 @@ values_run p s = as_is p p.from (from_front (YieldsFirst {A = ℕ} (λ rest. res
 
 -- ---- the words of sets as those of lists
 
-range_end : (a n j : ℕ) → a + n ≡ j → range_with_len a (suc n) ≡ range_with_len a n ++ j ∷ []
+pub range_end : (a n j : ℕ) → a + n ≡ j → range_with_len a (suc n) ≡ range_with_len a n ++ j ∷ []
 range_end a zero j e = ap (λ x. x ∷ []) (omega arith)
 range_end a (suc n) j e = ap (λ xs. a ∷ xs) (range_end (a + 1) n j (omega arith))
 
