@@ -1,11 +1,10 @@
 -- The first clause of a policy's words, and what comes after it.
-use Rattle.std.proofs.Common.{◌≡◌, ℕ, ◌+◌, ◌-◌, ◌<◌, ◌≤◌, cond, List, [], ◌∷◌, length, get_or, drop, Some, None, Ok, Err, sym, refl, ap, ◌∙◌, subst, arith, length-drop}
+use Rattle.std.proofs.Common.{◌≡◌, ℕ, ◌+◌, ◌-◌, ◌<◌, ◌≤◌, cond, List, [], ◌∷◌, length, get_or, drop, Some, None, Ok, Err, Result, sym, refl, ap, ◌∙◌, subst, arith, length-drop}
 use Rattle.std.proofs.lemmas.List.{drop-drop, drop_all, drop_more}
 use Rattle.std.proofs.lemmas.Bool.{eq-eqb, ne_eqb, or_left, or_right, lt-ltb}
 use Rattle.lattice.specs.declared.sizes.Sizes.{Sizes}
 use Rattle.policy.specs.declared.clause.Kind.{Kind}
 use Rattle.policy.specs.declared.draft.Phase.TheVariants.{Listing}
-use Rattle.policy.specs.declared.draft.Open.{Open}
 use Rattle.policy.specs.declared.draft.Draft.{Draft}
 use Rattle.policy.specs.declared.clause.ClauseRecord.{ClauseRecord}
 use Rattle.refusals.specs.declared.refusal.Reason.{Reason}
@@ -19,7 +18,7 @@ use Rattle.policy.specs.Words.{Frame, Reading, fault, fault_outside, fault_from,
 use Rattle.policy.specs.Walk.{walk, Slot, Records, recorded, fresh, empty}
 use Rattle.policy.specs.Laid.{LaidClause}
 use Rattle.policy.specs.Sized.{Sized}
-use Rattle.policy.specs.Reads.{slot, goes, stored, numbered, Closes, Stops, Begins, Firsts, stray_reason}
+use Rattle.policy.specs.Reads.{slot, goes, stored, numbered, just_open, Closes, Stops, Behind, Begins, Begun, Firsts, stray_reason}
 use Rattle.policy.specs.Stands.{Drafted}
 use Rattle.policy.proofs.Steps.{tail, tail_is}
 use Rattle.policy.proofs.Grown.{Node, agrees, walk_on, walk_stop}
@@ -59,15 +58,10 @@ module _ (d : Draft) (ws : List ℕ) (some : 1 ≤ length ws) (count : d.count �
       by End n e = ap Some (sym e)
       by NoWord n e = ap Some (sym e)
 
-  abbrev first_open : Open
-  first_open = record { phase = Listing; last = 0; depth = 0 + 1 }
-
-  module _ (k : Kind) (is : w ≡ Head k) (i : Open) (ei : i ≡ first_open) (f : ClauseRecord) (ef : f ≡ fresh k) where
-    pub begun_on : (left : ℕ) (e : Draft) (y : ClauseRecord) → Closes k i (numbered d) f (tail ws) left e y → Begins d ws left (stored e d.count y)
+  module _ (k : Kind) (is : w ≡ Head k) where
+    begun_on : (left : ℕ) (e : Draft) (y : ClauseRecord) → Closes k (just_open 0) (numbered d) (fresh k) (tail ws) left e y → Begins d ws left (stored e d.count y)
     begun_on left e y h =
-        let h₁ : Closes k first_open (numbered d) f (tail ws) left e y = subst (λ q. Closes k q (numbered d) f (tail ws) left e y) ei h in
-        let h₂ : Closes k first_open (numbered d) (fresh k) (tail ws) left e y = subst (λ q. Closes k first_open (numbered d) q (tail ws) left e y) ef h₁ in
-        let c : Closes k first_open (numbered d) (fresh k) (drop 1 ws) left e y = subst (λ q. Closes k first_open (numbered d) (fresh k) q left e y) (tail_is ws) h₂ in
+        let c : Closes k (just_open 0) (numbered d) (fresh k) (drop 1 ws) left e y = subst (λ q. Closes k (just_open 0) (numbered d) (fresh k) q left e y) (tail_is ws) h in
         let step = outside_head d ws some (omega arith) count k (sym ew ∙ is) in
         let n : length (drop 1 ws) ≡ length ws - 1 = length-drop 1 ws in
         let low : left < length (drop 1 ws) = c.shorter in
@@ -80,12 +74,14 @@ module _ (d : Draft) (ws : List ℕ) (some : 1 ≤ length ws) (count : d.count �
           on = step ∙ c.on [] [] d.count refl ∙ ap (λ u. goes (stored e d.count y) [] [] u) (drop-drop (length (drop 1 ws) - left) 1 ws ∙ ap (λ j. drop j ws) m);
         }
 
-    pub begun_stops : (r : Refusal) → Stops k i (numbered d) f (tail ws) r → goes d [] [] ws ≡ Err r
+    begun_stops : (r : Refusal) → Stops k (just_open 0) (numbered d) (fresh k) (tail ws) r → goes d [] [] ws ≡ Err r
     begun_stops r h =
-        let h₁ : Stops k first_open (numbered d) f (tail ws) r = subst (λ q. Stops k q (numbered d) f (tail ws) r) ei h in
-        let h₂ : Stops k first_open (numbered d) (fresh k) (tail ws) r = subst (λ q. Stops k first_open (numbered d) q (tail ws) r) ef h₁ in
-        let c : Stops k first_open (numbered d) (fresh k) (drop 1 ws) r = subst (λ q. Stops k first_open (numbered d) (fresh k) q r) (tail_is ws) h₂ in
+        let c : Stops k (just_open 0) (numbered d) (fresh k) (drop 1 ws) r = subst (λ q. Stops k (just_open 0) (numbered d) (fresh k) q r) (tail_is ws) h in
         outside_head d ws some (omega arith) count k (sym ew ∙ is) ∙ c [] [] d.count refl
+
+    pub begun_behind : (r : Result ℕ Refusal) (e : Draft) → Behind k 0 d (tail ws) r e → Begun d ws r e
+    begun_behind (Ok left) e (g, (y, (c, q))) = subst (λ f. Begins d ws left f) (sym q) (begun_on left g y c)
+    begun_behind (Err r) e h = begun_stops r h
 
 pub begun_none : (d : Draft) (ws : List ℕ) → length ws < 1 → d.count ≡ 0 → d.total ≡ length ws → goes d [] [] ws ≡ Err (record { reason = MisplacedWord; place = 0 })
 unfolding walk

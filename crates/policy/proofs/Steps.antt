@@ -16,7 +16,14 @@ use Rattle.policy.specs.declared.word.Word.TheVariants.{Head, Value, Except, End
 use Rattle.policy.specs.Decode.{word_of}
 use Rattle.policy.specs.Words.{Frame, Reading, fault_in, advanced, ended}
 use Rattle.policy.specs.Walk.{walk, Slot, Records, recorded, fresh, with_value, closed}
-use Rattle.policy.specs.Reads.{Ready, frame_of, slot, goes, stored, numbered, Closes, Stops, Reads}
+use Rattle.policy.specs.Reads.{Ready, frame_of, slot, goes, stored, numbered, just_open, Closes, Stops, Reads, Behind}
+use Rattle.policy.specs.Sized.{Sized}
+
+-- the words `all` of a clause are read as far as `ws`: whatever the rest comes to, all of them come to
+pub record Along (k : Kind) (depth : ℕ) (start : Draft) (all : List ℕ) (number : ℕ) (o : Open) (d : Draft) (x : ClauseRecord) (ws : List ℕ) : Type 0 where
+  pub ready : Ready o d ws
+  pub given : number ≡ start.count
+  pub on : (r : Result ℕ Refusal) (e : Draft) (y : ClauseRecord) → Reads k o d x ws r e y → Reads k (just_open depth) (numbered start) (fresh k) all r e y
 
 -- `rest` of the pattern `[first, rest @ ..]`
 abbrev pub tail : List ℕ → List ℕ
@@ -97,10 +104,6 @@ module _ (k : Kind) (o o' : Open) (d d' : Draft) (x x' : ClauseRecord) (ws : Lis
       }
   later (Err r) e y h = λ fs ss n el. step fs ss n el ∙ h fs ss n (el ∙ sym deep)
 
-abbrev other : Kind → Kind
-other Allow = Deny
-other Deny = Allow
-
 module _ (k : Kind) (o : Open) (d : Draft) (x : ClauseRecord) (ws : List ℕ) (some : 1 ≤ length ws) (ready : Ready o d ws) (w : Word) (ew : w ≡ word_of (get_or ws 0 0)) (clean : no_fault k o d w ≡ None) where
   on_by : (v : Word) → w ≡ v → (fs : List Frame) (ss : List Slot) → length fs + 1 ≡ o.depth
       → goes d (frame_of k o ∷ fs) ss ws
@@ -109,13 +112,13 @@ module _ (k : Kind) (o : Open) (d : Draft) (x : ClauseRecord) (ws : List ℕ) (s
       goes_on k o d ws some ready.within w ew clean fs ss el
       ∙ ap (λ y. walk (recorded d.sizes) d.sizes (advanced (reading k o d fs) y) (recorded d.sizes (reading k o d fs) y (records d ss)) (d.total - length (drop 1 ws)) (drop 1 ws)) is
 
-  pub at_except : w ≡ Except → (r : Result ℕ Refusal) (e : Draft) (y : ClauseRecord)
+  at_except : w ≡ Except → (r : Result ℕ Refusal) (e : Draft) (y : ClauseRecord)
       → Reads k (record { phase = Excepting; last = o.last; depth = o.depth }) d x (tail ws) r e y → Reads k o d x ws r e y
   at_except is r e y h =
       later k o (record { phase = Excepting; last = o.last; depth = o.depth }) d d x x ws 1 (omega arith) some (omega arith) refl refl refl (λ fs ss n el. on_by Except is fs (slot n x ∷ ss) el) r e y
       (subst (λ u. Reads k (record { phase = Excepting; last = o.last; depth = o.depth }) d x u r e y) (tail_is ws) h)
 
-  pub at_value : (a v : ℕ) → w ≡ Value a v → (x' : ClauseRecord) → x' ≡ with_value a v x → (last : ℕ) → last ≡ a * 256 + v → (r : Result ℕ Refusal) (e : Draft) (y : ClauseRecord)
+  at_value : (a v : ℕ) → w ≡ Value a v → (x' : ClauseRecord) → x' ≡ with_value a v x → (last : ℕ) → last ≡ a * 256 + v → (r : Result ℕ Refusal) (e : Draft) (y : ClauseRecord)
       → Reads k (record { phase = o.phase; last = last; depth = o.depth }) d x' (tail ws) r e y
       → Reads k o d x ws r e y
   at_value a v is x' ex last el r e y h =
@@ -126,7 +129,7 @@ module _ (k : Kind) (o : Open) (d : Draft) (x : ClauseRecord) (ws : List ℕ) (s
       later k o (record { phase = o.phase; last = a * 256 + v; depth = o.depth }) d d x (with_value a v x)
       ws 1 (omega arith) some (omega arith) refl refl refl (λ fs ss n el. on_by (Value a v) is fs (slot n x ∷ ss) el) r e y h₃
 
-  pub at_end : w ≡ End → (y : ClauseRecord) → y ≡ closed d.sizes d.count x → Closes k o d x ws (length (tail ws)) d y
+  at_end : w ≡ End → (y : ClauseRecord) → y ≡ closed d.sizes d.count x → Closes k o d x ws (length (tail ws)) d y
   at_end is y ey =
       let n : length (tail ws) ≡ length ws - 1 = ap length (tail_is ws) ∙ length-drop 1 ws in
       let one : 1 ≡ length ws - length (tail ws) = omega arith in
@@ -170,30 +173,55 @@ module _ (k : Kind) (o : Open) (d : Draft) (x : ClauseRecord) (ws : List ℕ) (s
       ∙ (c₁.on (frame_of k o ∷ fs) (slot n x ∷ ss) d.count (let z : suc (length fs) + 1 ≡ o.depth + 1 = omega arith in z) ∙ ap (λ v. goes (stored e d.count y) (frame_of k later_open ∷ fs) (slot n x ∷ ss) v) e₁))
       r g q h₁
 
-  head_other : (p : Phase) (j h : Kind) → fault_in d.sizes o.depth d.count j o.last p (Head h) ≡ None → h ≡ other j
-  head_other Listing j h e = absurd (let z : ◌≡◌ {A = ℕ} 0 1 = cc in omega arith)
-  head_other Excepting Allow Allow e = absurd (let z : ◌≡◌ {A = ℕ} 0 1 = cc in omega arith)
-  head_other Excepting Allow Deny e = refl
-  head_other Excepting Deny Allow e = refl
-  head_other Excepting Deny Deny e = absurd (let z : ◌≡◌ {A = ℕ} 0 1 = cc in omega arith)
-  head_other Excepted Allow Allow e = absurd (let z : ◌≡◌ {A = ℕ} 0 1 = cc in omega arith)
-  head_other Excepted Allow Deny e = refl
-  head_other Excepted Deny Allow e = refl
-  head_other Excepted Deny Deny e = absurd (let z : ◌≡◌ {A = ℕ} 0 1 = cc in omega arith)
+-- one word more of the clause
+module _ (k : Kind) (depth : ℕ) (start : Draft) (all : List ℕ) (number : ℕ) (o : Open) (d : Draft) (x : ClauseRecord) (ws : List ℕ) (a : Along k depth start all number o d x ws) where
+  pub along_none : length ws < 1 → Stops k (just_open depth) (numbered start) (fresh k) all (record { reason = MisplacedWord; place = d.total })
+  along_none h =
+      let p : d.total - length ws ≡ d.total = omega arith in
+      a.on (Err (record { reason = MisplacedWord; place = d.total })) d x (subst (λ i. Stops k o d x ws (record { reason = MisplacedWord; place = i })) p (stops_none k o d x ws h))
 
-  the_head : (h : Kind) → w ≡ Head h → w ≡ Head (other k)
-  the_head h is = is ∙ ap Head (head_other o.phase k h (ap (no_fault k o d) (sym is) ∙ clean))
+  module _ (some : 1 ≤ length ws) (w : Word) (ew : w ≡ word_of (get_or ws 0 0)) where
+    pub along_fault : (y : Reason) → no_fault k o d w ≡ Some y → Stops k (just_open depth) (numbered start) (fresh k) all (record { reason = y; place = d.total - length ws })
+    along_fault y ef = a.on (Err (record { reason = y; place = d.total - length ws })) d x (stops_at k o d x ws some w ew y ef)
 
-  module _ (h : Kind) (is : w ≡ Head h) (i : Open) (ei : i ≡ inner) (f : ClauseRecord) (ef : f ≡ fresh (other k)) where
-    pub head_stops : (r : Refusal) → Stops (other k) i (numbered d) f (tail ws) r → Stops k o d x ws r
-    head_stops r b =
-        let b₁ : Stops (other k) inner (numbered d) f (tail ws) r = subst (λ q. Stops (other k) q (numbered d) f (tail ws) r) ei b in
-        let b₂ : Stops (other k) inner (numbered d) (fresh (other k)) (tail ws) r = subst (λ q. Stops (other k) inner (numbered d) q (tail ws) r) ef b₁ in
-        at_head_stops (other k) (the_head h is) r b₂
+    module _ (clean : no_fault k o d w ≡ None) where
+      fewer : length (tail ws) ≤ d.total
+      fewer = omega (arith, ap length (tail_is ws), length-drop 1 ws, a.ready.within)
 
-    pub head_on : (left : ℕ) (e : Draft) (y : ClauseRecord) → Closes (other k) i (numbered d) f (tail ws) left e y
-        → (u : List ℕ) → u ≡ drop (length (tail ws) - left) (tail ws) → (r : Result ℕ Refusal) (g : Draft) (q : ClauseRecord) → Reads k later_open (stored e d.count y) x u r g q → Reads k o d x ws r g q
-    head_on left e y b =
-        let b₁ : Closes (other k) inner (numbered d) f (tail ws) left e y = subst (λ q. Closes (other k) q (numbered d) f (tail ws) left e y) ei b in
-        let b₂ : Closes (other k) inner (numbered d) (fresh (other k)) (tail ws) left e y = subst (λ q. Closes (other k) inner (numbered d) q (tail ws) left e y) ef b₁ in
-        at_head_on (other k) (the_head h is) left e y b₂
+      pub along_except : w ≡ Except → Along k depth start all number (record { phase = Excepting; last = o.last; depth = o.depth }) d x (tail ws)
+      along_except is = record {
+        ready = record { room = a.ready.room; deep = a.ready.deep; within = fewer; sized = a.ready.sized };
+        given = a.given;
+        on = λ r e y h. a.on r e y (at_except k o d x ws some a.ready w ew clean is r e y h);
+      }
+
+      pub along_value : (v n : ℕ) → w ≡ Value v n → (x' : ClauseRecord) → x' ≡ with_value v n x → (last : ℕ) → last ≡ v * 256 + n
+          → Along k depth start all number (record { phase = o.phase; last = last; depth = o.depth }) d x' (tail ws)
+      along_value v n is x' ex last el = record {
+        ready = record { room = a.ready.room; deep = a.ready.deep; within = fewer; sized = a.ready.sized };
+        given = a.given;
+        on = λ r e y h. a.on r e y (at_value k o d x ws some a.ready w ew clean v n is x' ex last el r e y h);
+      }
+
+      pub along_end : w ≡ End → (y : ClauseRecord) → y ≡ closed d.sizes d.count x → Behind k depth start all (Ok (length (tail ws))) (stored d number y)
+      along_end is y ey = (d, (y, (a.on (Ok (length (tail ws))) d y (at_end k o d x ws some a.ready w ew clean is y ey), ap (λ n. stored d n y) a.given)))
+
+      module _ (k' : Kind) (is : w ≡ Head k') where
+        pub along_head_stops : (r : Refusal) (e : Draft) → Behind k' o.depth d (tail ws) (Err r) e → Behind k depth start all (Err r) e
+        along_head_stops r e h = a.on (Err r) d x (at_head_stops k o d x ws some a.ready w ew clean k' is r h)
+
+        pub along_head : (left : ℕ) (e : Draft) → Behind k' o.depth d (tail ws) (Ok left) e → (u : List ℕ) → u ≡ drop (length (tail ws) - left) (tail ws)
+            → Along k depth start all number (record { phase = Excepted; last = o.last; depth = o.depth }) e x u
+        along_head left e (g, (y, (c, q))) u eu =
+            let grows : d.count + 1 ≤ g.count = c.grows in
+            let m : length u ≤ length (tail ws) = omega (arith, ap length eu, length-drop (length (tail ws) - left) (tail ws)) in
+            subst (λ f. Along k depth start all number (record { phase = Excepted; last = o.last; depth = o.depth }) f x u) (sym q) (record {
+              ready = record {
+                room = c.room;
+                deep = omega (arith, a.ready.deep);
+                within = omega (arith, fewer, c.total);
+                sized = subst Sized (sym c.sizes) a.ready.sized;
+              };
+              given = a.given;
+              on = λ r f z h. a.on r f z (at_head_on k o d x ws some a.ready w ew clean k' is left g y c u eu r f z h);
+            })

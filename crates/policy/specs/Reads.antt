@@ -1,6 +1,7 @@
 -- What the reader of a clause does. Assumes nothing.
 use Rattle.std.specs.Prelude.{◌≡◌, ℕ, ◌+◌, ◌-◌, ◌<◌, ◌≤◌, List, [], ◌∷◌, length, drop, Ok, Err, Result, slice_set}
 use Rattle.policy.specs.declared.clause.Kind.{Kind}
+use Rattle.policy.specs.declared.draft.Phase.TheVariants.{Listing}
 use Rattle.policy.specs.declared.draft.Open.{Open}
 use Rattle.policy.specs.declared.clause.ClauseRecord.{ClauseRecord}
 use Rattle.policy.specs.declared.draft.Draft.{Draft}
@@ -10,7 +11,7 @@ use Rattle.refusals.specs.declared.refusal.Refusal.{Refusal}
 use Rattle.policy.specs.declared.word.Word.{Word}
 use Rattle.policy.specs.declared.word.Word.TheVariants.{Head, Value, Except, End, NoWord}
 use Rattle.policy.specs.Words.{Frame, ended}
-use Rattle.policy.specs.Walk.{walk, Slot, Records, recorded}
+use Rattle.policy.specs.Walk.{walk, Slot, Records, recorded, fresh}
 use Rattle.policy.specs.Sized.{Sized}
 
 -- the clauses that are open have numbers, and no more words are left than there are
@@ -57,6 +58,16 @@ Stops k o d x ws e =
 abbrev pub Reads : Kind → Open → Draft → ClauseRecord → List ℕ → Result ℕ Refusal → Draft → ClauseRecord → Type 0
 Reads k o d x ws (Ok left) e y = Closes k o d x ws left e y
 Reads k o d x ws (Err r) e y = Stops k o d x ws r
+
+-- a clause whose head alone is read, inside `depth` others
+abbrev pub just_open : ℕ → Open
+just_open depth = record { phase = Listing; last = 0; depth = depth + 1 }
+
+-- a clause inside `depth` others is given the next number and read from the word behind its head on, and its record is stored
+abbrev pub Behind : Kind → ℕ → Draft → List ℕ → Result ℕ Refusal → Draft → Type 0
+Behind k depth d ws (Ok left) e =
+    (g : Draft) × ((y : ClauseRecord) × (Reads k (just_open depth) (numbered d) (fresh k) ws (Ok left) g y × (e ≡ stored g d.count y)))
+Behind k depth d ws (Err r) e = Stops k (just_open depth) (numbered d) (fresh k) ws r
 
 -- the words of a policy, from its first on
 abbrev pub Firsts : Draft → List ℕ → Result (Unit {0}) Refusal → Draft → Type 0
