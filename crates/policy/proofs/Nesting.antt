@@ -16,8 +16,11 @@ nested_at_prop rs i p q = λ t. record {
 nested_prop : (rs : List ClauseRecord) → IsProp (Nested rs)
 nested_prop rs = Π_prop λ i. →_prop (nested_at_prop rs i)
 
+pub nested_held : (rs : List ClauseRecord) → ∥ Nested rs ∥₁ → Nested rs
+nested_held rs held = ∥∥₁_elim held (nested_prop rs) (λ h. h)
+
 -- a slice from the front nests where the records that it is made of do
-pub nested_front : (count : ℕ) (rs : List ClauseRecord) → ∥ Nested (take count rs) ∥₁ → Nested (take (count - 0) (drop 0 rs))
+pub nested_front : (count : ℕ) (rs : List ClauseRecord) → ∥ Nested (take count rs) ∥₁ → ∥ Nested (take (count - 0) (drop 0 rs)) ∥₁
 nested_front count rs held =
     let front : take (count - 0) (drop 0 rs) ≡ take count rs = ap (λ k. take k rs) (omega arith) in
-    subst Nested (sym front) (∥∥₁_elim held (nested_prop (take count rs)) (λ h. h))
+    subst (λ ts. ∥ Nested ts ∥₁) (sym front) held
