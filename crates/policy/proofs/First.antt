@@ -1,5 +1,5 @@
 -- The first clause of a policy's words, and what comes after it.
-use Rattle.std.proofs.Common.{◌≡◌, ℕ, ◌+◌, ◌-◌, ◌<◌, ◌≤◌, cond, List, [], ◌∷◌, length, get_or, drop, Some, None, Ok, Err, Result, sym, refl, ap, ◌∙◌, subst, arith, length-drop}
+use Rattle.std.proofs.Common.{◌≡◌, ℕ, ◌+◌, ◌-◌, ◌<◌, ◌≤◌, cond, List, [], ◌∷◌, length, get_or, drop, Some, None, Option, Ok, Err, Result, sym, refl, ap, ◌∙◌, subst, arith, length-drop}
 use Rattle.std.proofs.lemmas.List.{drop-drop, drop_all, drop_more}
 use Rattle.std.proofs.lemmas.Bool.{eq-eqb, ne_eqb, or_left, or_right, lt-ltb}
 use Rattle.lattice.specs.declared.sizes.Sizes.{Sizes}
@@ -11,28 +11,28 @@ use Rattle.refusals.specs.declared.refusal.Reason.{Reason}
 use Rattle.refusals.specs.declared.refusal.Reason.TheVariants.{MisplacedWord, WordCount}
 use Rattle.refusals.specs.declared.refusal.Refusal.{Refusal}
 use Rattle.policy.specs.declared.word.Word.{Word}
-use Rattle.policy.specs.declared.word.Word.TheVariants.{Head, Value, Except, End, NoWord}
+use Rattle.policy.specs.declared.word.Word.TheVariants.{Head, Value, Except, End}
 use Rattle.policy.specs.Clauses.{Clause, none, more, clause_count}
 use Rattle.policy.specs.Decode.{word_of}
-use Rattle.policy.specs.Words.{Frame, Reading, fault, fault_outside, fault_from, words_fault, nothing_read, Small, Written, spelled, meaning, meanings}
+use Rattle.policy.specs.Words.{Frame, Reading, checked, fault, fault_outside, fault_from, words_fault, nothing_read, Small, Written, spelled, meaning, meanings}
 use Rattle.policy.specs.Walk.{walk, Slot, Records, recorded, fresh, empty}
 use Rattle.policy.specs.Laid.{LaidClause}
 use Rattle.policy.specs.Sized.{Sized}
 use Rattle.policy.specs.Reads.{slot, goes, stored, numbered, just_open, Closes, Stops, Behind, Begins, Begun, Firsts, stray_reason}
 use Rattle.policy.specs.Stands.{Drafted}
 use Rattle.policy.proofs.Steps.{tail, tail_is}
-use Rattle.policy.proofs.Grown.{Node, agrees, walk_on, walk_stop}
+use Rattle.policy.proofs.Grown.{Node, agrees, checked_on, walk_on, walk_stop}
 use Rattle.policy.proofs.Recorded.{Sim, simulates}
 use Rattle.policy.proofs.Complete.{node}
 use Rattle.policy.proofs.Exact.{clean, stopped, spelt, within, written_of}
 
 -- a word outside every clause
-outside_stop : (d : Draft) (ws : List ℕ) → 1 ≤ length ws → (x : Reason) → fault_outside d.count (word_of (get_or ws 0 0)) ≡ Some x → goes d [] [] ws ≡ Err (record { reason = x; place = d.total - length ws })
+outside_stop : (d : Draft) (ws : List ℕ) → 1 ≤ length ws → (x : Reason) → checked (word_of (get_or ws 0 0)) (fault_outside d.count) ≡ Err x → goes d [] [] ws ≡ Err (record { reason = x; place = d.total - length ws })
 outside_stop d [] h x e = absurd (omega arith)
 outside_stop d (w ∷ ws) h x e =
     walk_stop (recorded d.sizes) d.sizes (record { open_clauses = []; heads = d.count }) (record { opens = []; clauses = d.clauses; count = d.count }) (d.total - length (w ∷ ws)) w ws x e
 
-outside_head : (d : Draft) (ws : List ℕ) → 1 ≤ length ws → length ws ≤ d.total → d.count ≡ 0 → (k : Kind) → word_of (get_or ws 0 0) ≡ Head k
+outside_head : (d : Draft) (ws : List ℕ) → 1 ≤ length ws → length ws ≤ d.total → d.count ≡ 0 → (k : Kind) → word_of (get_or ws 0 0) ≡ Some (Head k)
     → goes d [] [] ws ≡ goes (numbered d) (record { kind = k; phase = Listing; last = 0 } ∷ []) (slot d.count (fresh k) ∷ []) (drop 1 ws)
 outside_head d [] h t c k e = absurd (omega arith)
 outside_head d (w ∷ ws) h t c k e =
@@ -40,25 +40,24 @@ outside_head d (w ∷ ws) h t c k e =
     let x : Records = record { opens = []; clauses = d.clauses; count = d.count } in
     let none_here : fault d.sizes r (Head k) ≡ None = ap (λ b. cond b None (Some MisplacedWord)) (eq-eqb d.count 0 c) in
     let p : d.total - length (w ∷ ws) + 1 ≡ d.total - length ws = omega arith in
-    walk_on (recorded d.sizes) d.sizes r x (d.total - length (w ∷ ws)) w ws (ap (fault d.sizes r) e ∙ none_here)
-    ∙ ap (λ v. walk (recorded d.sizes) d.sizes (Rattle.policy.specs.Words.advanced r v) (recorded d.sizes r v x) (d.total - length (w ∷ ws) + 1) ws) e
+    walk_on (recorded d.sizes) d.sizes r x (d.total - length (w ∷ ws)) w ws (Head k) (checked_on (word_of w) (fault d.sizes r) (Head k) e none_here)
     ∙ ap (λ i. walk (recorded d.sizes) d.sizes (Rattle.policy.specs.Words.advanced r (Head k)) (recorded d.sizes r (Head k) x) i ws) p
 
-module _ (d : Draft) (ws : List ℕ) (some : 1 ≤ length ws) (count : d.count ≡ 0) (total : d.total ≡ length ws) (w : Word) (ew : w ≡ word_of (get_or ws 0 0)) where
-  pub begun_stray : (x : Reason) → x ≡ stray_reason w → ((k : Kind) → w ≡ Head k → ⊥) → goes d [] [] ws ≡ Err (record { reason = x; place = 0 })
+module _ (d : Draft) (ws : List ℕ) (some : 1 ≤ length ws) (count : d.count ≡ 0) (total : d.total ≡ length ws) (w : Option Word) (ew : w ≡ word_of (get_or ws 0 0)) where
+  pub begun_stray : (x : Reason) → x ≡ stray_reason w → ((k : Kind) → w ≡ Some (Head k) → ⊥) → goes d [] [] ws ≡ Err (record { reason = x; place = 0 })
   begun_stray x ex no_head =
-      let f : fault_outside d.count w ≡ Some x = by w no_head ex in
+      let f : checked w (fault_outside d.count) ≡ Err x = by w no_head ex in
       let p : d.total - length ws ≡ 0 = omega arith in
-      outside_stop d ws some x (ap (fault_outside d.count) (sym ew) ∙ f) ∙ ap (λ i. Err (record { reason = x; place = i })) p
+      outside_stop d ws some x (ap (λ o. checked o (fault_outside d.count)) (sym ew) ∙ f) ∙ ap (λ i. Err (record { reason = x; place = i })) p
     where
-      by : (v : Word) → ((k : Kind) → v ≡ Head k → ⊥) → x ≡ stray_reason v → fault_outside d.count v ≡ Some x
-      by (Head k) n e = absurd (n k refl)
-      by (Value a c) n e = ap Some (sym e)
-      by Except n e = ap Some (sym e)
-      by End n e = ap Some (sym e)
-      by NoWord n e = ap Some (sym e)
+      by : (v : Option Word) → ((k : Kind) → v ≡ Some (Head k) → ⊥) → x ≡ stray_reason v → checked v (fault_outside d.count) ≡ Err x
+      by (Some (Head k)) n e = absurd (n k refl)
+      by (Some (Value a c)) n e = ap Err (sym e)
+      by (Some Except) n e = ap Err (sym e)
+      by (Some End) n e = ap Err (sym e)
+      by None n e = ap Err (sym e)
 
-  module _ (k : Kind) (is : w ≡ Head k) where
+  module _ (k : Kind) (is : w ≡ Some (Head k)) where
     begun_on : (left : ℕ) (e : Draft) (y : ClauseRecord) → Closes k (just_open 0) (numbered d) (fresh k) (tail ws) left e y → Begins d ws left (stored e d.count y)
     begun_on left e y h =
         let c : Closes k (just_open 0) (numbered d) (fresh k) (drop 1 ws) left e y = subst (λ q. Closes k (just_open 0) (numbered d) (fresh k) q left e y) (tail_is ws) h in
@@ -100,14 +99,14 @@ first_whole d e ws left b z =
     let n : drop (length ws - left) ws ≡ [] = drop_all (length ws - left) ws (omega arith) in
     (b.on ∙ ap (λ u. goes e [] [] u) n ∙ goes_end e b.some, b.sizes)
 
-stray_fault : (n : ℕ) → 1 ≤ n → (w : Word) → fault_outside n w ≡ Some (stray_reason w)
-stray_fault n h (Head k) = ap (λ b. cond b None (Some MisplacedWord)) (ne_eqb n 0 (λ e. omega arith))
-stray_fault n h (Value a c) = refl
-stray_fault n h Except = refl
-stray_fault n h End = refl
-stray_fault n h NoWord = refl
+stray_fault : (n : ℕ) → 1 ≤ n → (w : Option Word) → checked w (fault_outside n) ≡ Err (stray_reason w)
+stray_fault n h (Some (Head k)) = ap (λ b. elim (cond b None (Some MisplacedWord)) [ Some y ↦ Err y | None ↦ Ok (Head k) ]) (ne_eqb n 0 (λ e. omega arith))
+stray_fault n h (Some (Value a c)) = refl
+stray_fault n h (Some Except) = refl
+stray_fault n h (Some End) = refl
+stray_fault n h None = refl
 
-pub first_stray : (d e : Draft) (ws : List ℕ) (left : ℕ) → d.total ≡ length ws → Begins d ws left e → (left ≡ 0 → ⊥) → (w : Word) → w ≡ word_of (get_or ws (length ws - left) 0) → (x : Reason) → x ≡ stray_reason w
+pub first_stray : (d e : Draft) (ws : List ℕ) (left : ℕ) → d.total ≡ length ws → Begins d ws left e → (left ≡ 0 → ⊥) → (w : Option Word) → w ≡ word_of (get_or ws (length ws - left) 0) → (x : Reason) → x ≡ stray_reason w
     → goes d [] [] ws ≡ Err (record { reason = x; place = length ws - left })
 first_stray d e ws left t b nz w ew x ex =
     let low : left < length ws = b.shorter in
@@ -116,8 +115,8 @@ first_stray d e ws left t b nz w ew x ex =
     let more_words : drop i ws ≡ get_or ws i 0 ∷ drop (i + 1) ws = drop_more ws i 0 lt in
     let n : length (drop i ws) ≡ left = length-drop i ws ∙ omega arith in
     let head_is : get_or (drop i ws) 0 0 ≡ get_or ws i 0 = ap (λ u. get_or u 0 0) more_words in
-    let f : fault_outside e.count (word_of (get_or (drop i ws) 0 0)) ≡ Some x =
-    ap (λ v. fault_outside e.count (word_of v)) head_is ∙ ap (fault_outside e.count) (sym ew) ∙ stray_fault e.count b.some w ∙ ap Some (sym ex) in
+    let f : checked (word_of (get_or (drop i ws) 0 0)) (fault_outside e.count) ≡ Err x =
+    ap (λ v. checked (word_of v) (fault_outside e.count)) head_is ∙ ap (λ o. checked o (fault_outside e.count)) (sym ew) ∙ stray_fault e.count b.some w ∙ ap Err (sym ex) in
     let et = b.total in
     let p : e.total - length (drop i ws) ≡ i = omega arith in
     b.on ∙ outside_stop e (drop i ws) (omega arith) x f ∙ ap (λ j. Err (record { reason = x; place = j })) p

@@ -12,16 +12,16 @@ use Rattle.refusals.specs.declared.refusal.Reason.{Reason}
 use Rattle.refusals.specs.declared.refusal.Reason.TheVariants.{MisplacedWord}
 use Rattle.refusals.specs.declared.refusal.Refusal.{Refusal}
 use Rattle.policy.specs.declared.word.Word.{Word}
-use Rattle.policy.specs.declared.word.Word.TheVariants.{Head, Value, Except, End, NoWord}
+use Rattle.policy.specs.declared.word.Word.TheVariants.{Head, Value, Except, End}
 use Rattle.policy.specs.Clauses.{Clause, Clauses, allow, deny, none, more, clause_count, clauses_count}
 use Rattle.policy.specs.Decode.{word_of}
 use Rattle.policy.specs.Labels.{filled}
-use Rattle.policy.specs.Words.{Frame, Reading, fault, fault_in, advanced, ended, meaning, meanings}
+use Rattle.policy.specs.Words.{Frame, Reading, fault, admitted, fault_in, advanced, ended, meaning, meanings}
 use Rattle.policy.specs.Walk.{walk, listed, fresh, closed, Slot, Records, recorded, top_ended}
 use Rattle.policy.specs.Records.{clause_of, record_at}
 use Rattle.policy.specs.Laid.{LaidClause, Laid}
 use Rattle.policy.proofs.Trees.{laid_same}
-use Rattle.policy.proofs.Grown.{Node, snoc, shut, grown, walk_on, walk_stop}
+use Rattle.policy.proofs.Grown.{Node, snoc, shut, grown, checked_parts, walk_on, walk_stop}
 use Rattle.policy.proofs.Sound.{sound_head}
 
 mutual
@@ -178,8 +178,6 @@ module _ (z : Sizes) where
   top_step (f ∷ fs) [] ss heads rs n len few p End e = absurd p
   top_step (f ∷ fs) (y ∷ ys) [] heads rs n len few p End e = absurd p
   top_step (f ∷ fs) (y ∷ ys) (s ∷ ss) heads rs n len few p End e = end_step f y s heads rs (omega arith) p.0 fs ys ss p.1
-  top_step [] ys ss heads rs n len few p NoWord e = absurd (impossible e)
-  top_step (f ∷ fs) ys ss heads rs n len few p NoWord e = absurd (impossible e)
 
   sim_step : (fs : List Frame) (ys : List Node) (heads : ℕ) (x : Records) → length x.clauses ≡ 256 → heads ≤ 256 → Sim z fs ys x.opens heads x.clauses
       → (v : Word) → fault z (record { open_clauses = fs; heads = heads }) v ≡ None → Simulates fs ys heads x v
@@ -194,21 +192,18 @@ module _ (z : Sizes) where
   recorded_length r (Value a c) x = refl
   recorded_length r Except x = refl
   recorded_length r End x = ended_length r.heads x.opens x.clauses
-  recorded_length r NoWord x = refl
 
   advanced_few : (fs : List Frame) (heads : ℕ) (v : Word) → heads ≤ 256 → fault z (record { open_clauses = fs; heads = heads }) v ≡ None → (advanced (record { open_clauses = fs; heads = heads }) v).heads ≤ 256
   advanced_few fs heads (Head k) h e = omega (arith, head_room fs heads k e)
   advanced_few fs heads (Value a c) h e = h
   advanced_few fs heads Except h e = h
   advanced_few fs heads End h e = h
-  advanced_few fs heads NoWord h e = h
 
   recorded_count : (r : Reading) (v : Word) (x : Records) → x.count ≡ r.heads → (recorded z r v x).count ≡ (advanced r v).heads
   recorded_count r (Head k) x e = refl
   recorded_count r (Value a c) x e = e
   recorded_count r Except x e = e
   recorded_count r End x e = e
-  recorded_count r NoWord x e = e
 
   ends_here : (fs : List Frame) (ys : List Node) (heads : ℕ) (x₀ : Records) (i : ℕ) (out : List Node) (x : Records) → Sim z fs ys x₀.opens heads x₀.clauses → x₀.count ≡ heads
       → walk grown z (record { open_clauses = fs; heads = heads }) ys i [] ≡ Ok out → walk (recorded z) z (record { open_clauses = fs; heads = heads }) x₀ i [] ≡ Ok x
@@ -232,16 +227,17 @@ module _ (z : Sizes) where
       → Sim z [] out x.opens x.count x.clauses
   simulates [] fs ys heads x₀ i out x len few s c p q = ends_here fs ys heads x₀ i out x s c p q
   simulates (w ∷ ws) fs ys heads x₀ i out x len few s c p q =
-      by (fault z now_reading (word_of w)) refl
-      (λ e. simulates ws (advanced now_reading (word_of w)).open_clauses (grown now_reading (word_of w) ys) (advanced now_reading (word_of w)).heads (recorded z now_reading (word_of w) x₀) (i + 1) out x
-      (recorded_length now_reading (word_of w) x₀ ∙ len) (advanced_few fs heads (word_of w) few e) (sim_step fs ys heads x₀ len few s (word_of w) e) (recorded_count now_reading (word_of w) x₀ c))
+      by (admitted z now_reading w) refl (λ v f.
+      let e = (checked_parts (word_of w) (fault z now_reading) v f).1 in
+      simulates ws (advanced now_reading v).open_clauses (grown now_reading v ys) (advanced now_reading v).heads (recorded z now_reading v x₀) (i + 1) out x
+      (recorded_length now_reading v x₀ ∙ len) (advanced_few fs heads v few e) (sim_step fs ys heads x₀ len few s v e) (recorded_count now_reading v x₀ c))
     where
       now_reading : Reading
       now_reading = record { open_clauses = fs; heads = heads }
 
-      by : (o : Option Reason) → fault z now_reading (word_of w) ≡ o
-          → (fault z now_reading (word_of w) ≡ None → walk grown z (advanced now_reading (word_of w)) (grown now_reading (word_of w) ys) (i + 1) ws ≡ Ok out
-          → walk (recorded z) z (advanced now_reading (word_of w)) (recorded z now_reading (word_of w) x₀) (i + 1) ws ≡ Ok x → Sim z [] out x.opens x.count x.clauses)
+      by : (o : Result Word Reason) → admitted z now_reading w ≡ o
+          → ((v : Word) → admitted z now_reading w ≡ Ok v → walk grown z (advanced now_reading v) (grown now_reading v ys) (i + 1) ws ≡ Ok out
+          → walk (recorded z) z (advanced now_reading v) (recorded z now_reading v x₀) (i + 1) ws ≡ Ok x → Sim z [] out x.opens x.count x.clauses)
           → Sim z [] out x.opens x.count x.clauses
-      by (Some y) f ih = absurd (let t = walk_stop grown z now_reading ys i w ws y f in let z : ◌≡◌ {A = ℕ} 0 1 = cc in omega arith)
-      by None f ih = ih f (sym (walk_on grown z now_reading ys i w ws f) ∙ p) (sym (walk_on (recorded z) z now_reading x₀ i w ws f) ∙ q)
+      by (Err y) f ih = absurd (let t = walk_stop grown z now_reading ys i w ws y f in let z : ◌≡◌ {A = ℕ} 0 1 = cc in omega arith)
+      by (Ok v) f ih = ih v f (sym (walk_on grown z now_reading ys i w ws v f) ∙ p) (sym (walk_on (recorded z) z now_reading x₀ i w ws v f) ∙ q)

@@ -1,9 +1,7 @@
 -- One word of a reader, as one step of the walk.
-use Rattle.std.proofs.Common.{◌≡◌, ℕ, suc, ◌+◌, ◌-◌, ◌*◌, ◌<◌, ◌≤◌, List, [], ◌∷◌, length, get_or, take, drop, Some, None, Ok, Err, Option, Result, sym, refl, ap, ◌∙◌, subst, arith, length-drop}
+use Rattle.std.proofs.Common.{◌≡◌, ℕ, suc, ◌+◌, ◌-◌, ◌*◌, ◌<◌, ◌≤◌, List, [], ◌∷◌, length, get_or, take, drop, Ok, Err, Result, sym, refl, ap, ◌∙◌, subst, arith, length-drop}
 use Rattle.std.proofs.lemmas.List.{drop-drop, take_rest}
 use Rattle.policy.specs.declared.clause.Kind.{Kind}
-use Rattle.policy.specs.declared.clause.Kind.TheVariants.{Allow, Deny}
-use Rattle.policy.specs.declared.draft.Phase.{Phase}
 use Rattle.policy.specs.declared.draft.Phase.TheVariants.{Listing, Excepting, Excepted}
 use Rattle.policy.specs.declared.draft.Open.{Open}
 use Rattle.policy.specs.declared.draft.Draft.{Draft}
@@ -14,10 +12,11 @@ use Rattle.refusals.specs.declared.refusal.Refusal.{Refusal}
 use Rattle.policy.specs.declared.word.Word.{Word}
 use Rattle.policy.specs.declared.word.Word.TheVariants.{Head, Value, Except, End}
 use Rattle.policy.specs.Decode.{word_of}
-use Rattle.policy.specs.Words.{Frame, Reading, fault_in, advanced, ended}
+use Rattle.policy.specs.Words.{Frame, Reading, checked, admitted, fault_in, advanced, ended}
 use Rattle.policy.specs.Walk.{walk, Slot, Records, recorded, fresh, with_value, closed}
 use Rattle.policy.specs.Reads.{Ready, frame_of, slot, goes, stored, numbered, just_open, Closes, Stops, Reads, Behind}
 use Rattle.policy.specs.Sized.{Sized}
+use Rattle.policy.proofs.Grown.{walk_on, walk_stop}
 
 -- the words `all` of a clause are read as far as `ws`: whatever the rest comes to, all of them come to
 pub record Along (k : Kind) (depth : ℕ) (start : Draft) (all : List ℕ) (number : ℕ) (o : Open) (d : Draft) (x : ClauseRecord) (ws : List ℕ) : Type 0 where
@@ -38,8 +37,14 @@ reading k o d fs = record { open_clauses = frame_of k o ∷ fs; heads = d.count 
 abbrev records : Draft → List Slot → Records
 records d ss = record { opens = ss; clauses = d.clauses; count = d.count }
 
-abbrev no_fault : Kind → Open → Draft → Word → Option Reason
-no_fault k o d w = fault_in d.sizes o.depth d.count k o.last o.phase w
+-- the first of the words, as it is taken inside the open clause
+abbrev pub seen : Kind → Open → Draft → List ℕ → Result Word Reason
+seen k o d ws = checked (word_of (get_or ws 0 0)) (fault_in d.sizes o.depth d.count k o.last o.phase)
+
+seen_as : (k : Kind) (o : Open) (d : Draft) (w : ℕ) (ws : List ℕ) (fs : List Frame) → length fs + 1 ≡ o.depth → admitted d.sizes (reading k o d fs) w ≡ seen k o d (w ∷ ws)
+seen_as k o d w ws fs el =
+    let deep : suc (length fs) ≡ o.depth = omega arith in
+    ap (λ n. checked (word_of w) (fault_in d.sizes n d.count k o.last o.phase)) deep
 
 -- the end of the words
 pub stops_none : (k : Kind) (o : Open) (d : Draft) (x : ClauseRecord) (ws : List ℕ) → length ws < 1 → Stops k o d x ws (record { reason = MisplacedWord; place = d.total - length ws })
@@ -47,40 +52,22 @@ unfolding walk
 stops_none k o d x [] h fs ss n e = refl
 stops_none k o d x (w ∷ ws) h fs ss n e = absurd (omega arith)
 
-abbrev told : Kind → Open → Draft → List Frame → List Slot → ℕ → List ℕ → Word → Option Reason → Result Records Refusal
-told k o d fs ss i ws w (Some e) = Err (record { reason = e; place = i })
-told k o d fs ss i ws w None = walk (recorded d.sizes) d.sizes (advanced (reading k o d fs) w) (recorded d.sizes (reading k o d fs) w (records d ss)) (i + 1) ws
-
-goes_told : (k : Kind) (o : Open) (d : Draft) (ws : List ℕ) → 1 ≤ length ws → (fs : List Frame) (ss : List Slot)
-    → goes d (frame_of k o ∷ fs) ss ws
-    ≡ told k o d fs ss (d.total - length ws) (drop 1 ws) (word_of (get_or ws 0 0)) (fault_in d.sizes (suc (length fs)) d.count k o.last o.phase (word_of (get_or ws 0 0)))
-unfolding walk
-goes_told k o d [] h fs ss = absurd (omega arith)
-goes_told k o d (w ∷ ws) h fs ss =
-    let f : Option Reason = fault_in d.sizes (suc (length fs)) d.count k o.last o.phase (word_of w) in
-    elim f as (λ v. (elim v [ Some e ↦ Err (record { reason = e; place = d.total - length (w ∷ ws) }) | None ↦ walk (recorded d.sizes) d.sizes (advanced (reading k o d fs) (word_of w)) (recorded d.sizes (reading k o d fs) (word_of w) (records d ss)) (d.total - length (w ∷ ws) + 1) ws ]) ≡ told k o d fs ss (d.total - length (w ∷ ws)) ws (word_of w) v)
-    [ Some e ↦ refl | None ↦ refl ]
-
-goes_by : (k : Kind) (o : Open) (d : Draft) (ws : List ℕ) → 1 ≤ length ws → (w : Word) → w ≡ word_of (get_or ws 0 0) → (f : Option Reason) → no_fault k o d w ≡ f
-    → (fs : List Frame) (ss : List Slot) → length fs + 1 ≡ o.depth
-    → goes d (frame_of k o ∷ fs) ss ws ≡ told k o d fs ss (d.total - length ws) (drop 1 ws) w f
-goes_by k o d ws h w ew f ef fs ss el =
-    let deep : suc (length fs) ≡ o.depth = omega arith in
-    let e = goes_told k o d ws h fs ss in
-    e ∙ (rw (deep, ← ew, ef) refl)
-
-pub stops_at : (k : Kind) (o : Open) (d : Draft) (x : ClauseRecord) (ws : List ℕ) → 1 ≤ length ws → (w : Word) → w ≡ word_of (get_or ws 0 0) → (y : Reason) → no_fault k o d w ≡ Some y
+pub stops_at : (k : Kind) (o : Open) (d : Draft) (x : ClauseRecord) (ws : List ℕ) → 1 ≤ length ws → (y : Reason) → seen k o d ws ≡ Err y
     → Stops k o d x ws (record { reason = y; place = d.total - length ws })
-stops_at k o d x ws h w ew y ef fs ss n el = goes_by k o d ws h w ew (Some y) ef fs (slot n x ∷ ss) el
+stops_at k o d x [] h y e fs ss n el = absurd (omega arith)
+stops_at k o d x (w ∷ ws) h y e fs ss n el =
+    walk_stop (recorded d.sizes) d.sizes (reading k o d fs) (records d (slot n x ∷ ss)) (d.total - length (w ∷ ws)) w ws y (seen_as k o d w ws fs el ∙ e)
 
 -- a word without a fault
-goes_on : (k : Kind) (o : Open) (d : Draft) (ws : List ℕ) → 1 ≤ length ws → length ws ≤ d.total → (w : Word) → w ≡ word_of (get_or ws 0 0) → no_fault k o d w ≡ None
+goes_on : (k : Kind) (o : Open) (d : Draft) (ws : List ℕ) → 1 ≤ length ws → length ws ≤ d.total → (v : Word) → seen k o d ws ≡ Ok v
     → (fs : List Frame) (ss : List Slot) → length fs + 1 ≡ o.depth
     → goes d (frame_of k o ∷ fs) ss ws
-    ≡ walk (recorded d.sizes) d.sizes (advanced (reading k o d fs) w) (recorded d.sizes (reading k o d fs) w (records d ss)) (d.total - length (drop 1 ws)) (drop 1 ws)
-goes_on k o d ws h hi w ew ef fs ss el =
-    let p : d.total - length ws + 1 ≡ d.total - length (drop 1 ws) = simp length-drop (omega arith) in
-    goes_by k o d ws h w ew None ef fs ss el ∙ ap (λ i. walk (recorded d.sizes) d.sizes (advanced (reading k o d fs) w) (recorded d.sizes (reading k o d fs) w (records d ss)) i (drop 1 ws)) p
+    ≡ walk (recorded d.sizes) d.sizes (advanced (reading k o d fs) v) (recorded d.sizes (reading k o d fs) v (records d ss)) (d.total - length (drop 1 ws)) (drop 1 ws)
+goes_on k o d [] h hi v e fs ss el = absurd (omega arith)
+goes_on k o d (w ∷ ws) h hi v e fs ss el =
+    let p : d.total - length (w ∷ ws) + 1 ≡ d.total - length ws = omega arith in
+    walk_on (recorded d.sizes) d.sizes (reading k o d fs) (records d ss) (d.total - length (w ∷ ws)) w ws v (seen_as k o d w ws fs el ∙ e)
+    ∙ ap (λ i. walk (recorded d.sizes) d.sizes (advanced (reading k o d fs) v) (recorded d.sizes (reading k o d fs) v (records d ss)) i ws) p
 
 -- the same clause is read on from a later place
 module _ (k : Kind) (o o' : Open) (d d' : Draft) (x x' : ClauseRecord) (ws : List ℕ) (m : ℕ) (low : 1 ≤ m) (high : m ≤ length ws) (grows : d.count ≤ d'.count) (sizes : d'.sizes ≡ d.sizes) (total : d'.total ≡ d.total) (deep : o'.depth ≡ o.depth)
@@ -104,12 +91,12 @@ module _ (k : Kind) (o o' : Open) (d d' : Draft) (x x' : ClauseRecord) (ws : Lis
       }
   later (Err r) e y h = λ fs ss n el. step fs ss n el ∙ h fs ss n (el ∙ sym deep)
 
-module _ (k : Kind) (o : Open) (d : Draft) (x : ClauseRecord) (ws : List ℕ) (some : 1 ≤ length ws) (ready : Ready o d ws) (w : Word) (ew : w ≡ word_of (get_or ws 0 0)) (clean : no_fault k o d w ≡ None) where
+module _ (k : Kind) (o : Open) (d : Draft) (x : ClauseRecord) (ws : List ℕ) (some : 1 ≤ length ws) (ready : Ready o d ws) (w : Word) (ew : seen k o d ws ≡ Ok w) where
   on_by : (v : Word) → w ≡ v → (fs : List Frame) (ss : List Slot) → length fs + 1 ≡ o.depth
       → goes d (frame_of k o ∷ fs) ss ws
       ≡ walk (recorded d.sizes) d.sizes (advanced (reading k o d fs) v) (recorded d.sizes (reading k o d fs) v (records d ss)) (d.total - length (drop 1 ws)) (drop 1 ws)
   on_by v is fs ss el =
-      goes_on k o d ws some ready.within w ew clean fs ss el
+      goes_on k o d ws some ready.within w ew fs ss el
       ∙ ap (λ y. walk (recorded d.sizes) d.sizes (advanced (reading k o d fs) y) (recorded d.sizes (reading k o d fs) y (records d ss)) (d.total - length (drop 1 ws)) (drop 1 ws)) is
 
   at_except : w ≡ Except → (r : Result ℕ Refusal) (e : Draft) (y : ClauseRecord)
@@ -180,11 +167,11 @@ module _ (k : Kind) (depth : ℕ) (start : Draft) (all : List ℕ) (number : ℕ
       let p : d.total - length ws ≡ d.total = omega arith in
       a.on (Err (record { reason = MisplacedWord; place = d.total })) d x (subst (λ i. Stops k o d x ws (record { reason = MisplacedWord; place = i })) p (stops_none k o d x ws h))
 
-  module _ (some : 1 ≤ length ws) (w : Word) (ew : w ≡ word_of (get_or ws 0 0)) where
-    pub along_fault : (y : Reason) → no_fault k o d w ≡ Some y → Stops k (just_open depth) (numbered start) (fresh k) all (record { reason = y; place = d.total - length ws })
-    along_fault y ef = a.on (Err (record { reason = y; place = d.total - length ws })) d x (stops_at k o d x ws some w ew y ef)
+  module _ (some : 1 ≤ length ws) where
+    pub along_fault : (y : Reason) → seen k o d ws ≡ Err y → Stops k (just_open depth) (numbered start) (fresh k) all (record { reason = y; place = d.total - length ws })
+    along_fault y ey = a.on (Err (record { reason = y; place = d.total - length ws })) d x (stops_at k o d x ws some y ey)
 
-    module _ (clean : no_fault k o d w ≡ None) where
+    module _ (w : Word) (ew : seen k o d ws ≡ Ok w) where
       fewer : length (tail ws) ≤ d.total
       fewer = omega (arith, ap length (tail_is ws), length-drop 1 ws, a.ready.within)
 
@@ -192,7 +179,7 @@ module _ (k : Kind) (depth : ℕ) (start : Draft) (all : List ℕ) (number : ℕ
       along_except is = record {
         ready = record { room = a.ready.room; deep = a.ready.deep; within = fewer; sized = a.ready.sized };
         given = a.given;
-        on = λ r e y h. a.on r e y (at_except k o d x ws some a.ready w ew clean is r e y h);
+        on = λ r e y h. a.on r e y (at_except k o d x ws some a.ready w ew is r e y h);
       }
 
       pub along_value : (v n : ℕ) → w ≡ Value v n → (x' : ClauseRecord) → x' ≡ with_value v n x → (last : ℕ) → last ≡ v * 256 + n
@@ -200,15 +187,15 @@ module _ (k : Kind) (depth : ℕ) (start : Draft) (all : List ℕ) (number : ℕ
       along_value v n is x' ex last el = record {
         ready = record { room = a.ready.room; deep = a.ready.deep; within = fewer; sized = a.ready.sized };
         given = a.given;
-        on = λ r e y h. a.on r e y (at_value k o d x ws some a.ready w ew clean v n is x' ex last el r e y h);
+        on = λ r e y h. a.on r e y (at_value k o d x ws some a.ready w ew v n is x' ex last el r e y h);
       }
 
       pub along_end : w ≡ End → (y : ClauseRecord) → y ≡ closed d.sizes d.count x → Behind k depth start all (Ok (length (tail ws))) (stored d number y)
-      along_end is y ey = (d, (y, (a.on (Ok (length (tail ws))) d y (at_end k o d x ws some a.ready w ew clean is y ey), ap (λ n. stored d n y) a.given)))
+      along_end is y ey = (d, (y, (a.on (Ok (length (tail ws))) d y (at_end k o d x ws some a.ready w ew is y ey), ap (λ n. stored d n y) a.given)))
 
       module _ (k' : Kind) (is : w ≡ Head k') where
         pub along_head_stops : (r : Refusal) (e : Draft) → Behind k' o.depth d (tail ws) (Err r) e → Behind k depth start all (Err r) e
-        along_head_stops r e h = a.on (Err r) d x (at_head_stops k o d x ws some a.ready w ew clean k' is r h)
+        along_head_stops r e h = a.on (Err r) d x (at_head_stops k o d x ws some a.ready w ew k' is r h)
 
         pub along_head : (left : ℕ) (e : Draft) → Behind k' o.depth d (tail ws) (Ok left) e → (u : List ℕ) → u ≡ drop (length (tail ws) - left) (tail ws)
             → Along k depth start all number (record { phase = Excepted; last = o.last; depth = o.depth }) e x u
@@ -223,5 +210,5 @@ module _ (k : Kind) (depth : ℕ) (start : Draft) (all : List ℕ) (number : ℕ
                 sized = subst Sized (sym c.sizes) a.ready.sized;
               };
               given = a.given;
-              on = λ r f z h. a.on r f z (at_head_on k o d x ws some a.ready w ew clean k' is left g y c u eu r f z h);
+              on = λ r f z h. a.on r f z (at_head_on k o d x ws some a.ready w ew k' is left g y c u eu r f z h);
             })

@@ -1,5 +1,5 @@
 -- What the reader of a clause does. Assumes nothing.
-use Rattle.std.specs.Prelude.{◌≡◌, ℕ, ◌+◌, ◌-◌, ◌<◌, ◌≤◌, List, [], ◌∷◌, length, drop, Ok, Err, Result, slice_set}
+use Rattle.std.specs.Prelude.{◌≡◌, ℕ, ◌+◌, ◌-◌, ◌<◌, ◌≤◌, List, [], ◌∷◌, length, drop, Some, None, Option, Ok, Err, Result, slice_set}
 use Rattle.policy.specs.declared.clause.Kind.{Kind}
 use Rattle.policy.specs.declared.draft.Phase.TheVariants.{Listing}
 use Rattle.policy.specs.declared.draft.Open.{Open}
@@ -9,7 +9,6 @@ use Rattle.refusals.specs.declared.refusal.Reason.{Reason}
 use Rattle.refusals.specs.declared.refusal.Reason.TheVariants.{MisplacedWord, BadWord}
 use Rattle.refusals.specs.declared.refusal.Refusal.{Refusal}
 use Rattle.policy.specs.declared.word.Word.{Word}
-use Rattle.policy.specs.declared.word.Word.TheVariants.{Head, Value, Except, End, NoWord}
 use Rattle.policy.specs.Words.{Frame, ended}
 use Rattle.policy.specs.Walk.{walk, Slot, Records, recorded, fresh}
 use Rattle.policy.specs.Sized.{Sized}
@@ -86,10 +85,7 @@ abbrev pub Begun : Draft → List ℕ → Result ℕ Refusal → Draft → Type 
 Begun d ws (Ok left) e = Begins d ws left e
 Begun d ws (Err x) e = goes d [] [] ws ≡ Err x
 
--- why a word that is no head, or no first one, is declined outside every clause
-abbrev pub stray_reason : Word → Reason
-stray_reason (Head k) = MisplacedWord
-stray_reason (Value a c) = MisplacedWord
-stray_reason Except = MisplacedWord
-stray_reason End = MisplacedWord
-stray_reason NoWord = BadWord
+-- why what is no head, or not the first one, is declined outside every clause
+abbrev pub stray_reason : Option Word → Reason
+stray_reason None = BadWord
+stray_reason (Some w) = MisplacedWord

@@ -15,10 +15,7 @@ impl Kind {
     pub(crate) fn is_allow(self) -> bool
         ensures { result ≡ is_allow self }
     {
-        match self {
-            Kind::Allow => true,
-            Kind::Deny => false,
-        }
+        self == Kind::Allow
     }
 }
 

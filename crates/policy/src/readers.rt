@@ -6,7 +6,7 @@ ghost use Rattle.policy.specs.Stands.{Drafted};
 
 use crate::clause::{ClauseRecord, Kind};
 use crate::draft::{Draft, Open, Phase};
-use crate::faults::fault_in;
+use crate::faults::admitted;
 use crate::word::{Word, word_of};
 use lattice::{Reason, Refusal, Sizes};
 
@@ -38,10 +38,9 @@ impl Draft {
         let mut left = words;
         while let [first, rest @ ..] = left {
             let place = self.total - left.len();
-            let word = word_of(*first);
-            if let Some(reason) = fault_in(self.sizes, self.count, kind, top, word) {
-                return Err(reason.at(place));
-            }
+            let word = admitted(self.sizes, self.count, kind, top, *first).map_err(
+                |reason| reason.at(place),
+            )?;
             left = rest;
             match word {
                 Word::Head(inner) => {
@@ -59,7 +58,6 @@ impl Draft {
                     self.clauses[number] = own;
                     return Ok(rest.len());
                 }
-                Word::NoWord => return Err(Reason::BadWord.at(place)),
             }
         }
         Err(Reason::MisplacedWord.at(self.total))
@@ -74,7 +72,7 @@ impl Draft {
             return Err(Reason::MisplacedWord.at(0));
         };
         match word_of(*first) {
-            Word::Head(kind) => self.read_behind(kind, 0, rest),
+            Some(Word::Head(kind)) => self.read_behind(kind, 0, rest),
             word => Err(stray(word).at(0)),
         }
     }
@@ -111,12 +109,12 @@ impl Draft {
     }
 }
 
-/// Why a word is declined outside every clause.
-fn stray(word: Word) -> Reason
+/// Why what is no head, or not the first one, is declined outside every clause.
+fn stray(word: Option<Word>) -> Reason
     ensures { result ≡ stray_reason word }
 {
     match word {
-        Word::NoWord => Reason::BadWord,
-        _ => Reason::MisplacedWord,
+        Some(_) => Reason::MisplacedWord,
+        None => Reason::BadWord,
     }
 }
