@@ -7,7 +7,7 @@ ghost use Rattle.policy.specs.Verdicts.{left_after};
 use crate::clause::{ClauseRecord, Kind};
 use crate::label::Label;
 use crate::vocabulary::Vocabulary;
-use lattice::bitset::{contains, remove};
+use lattice::bitset::{contains, remove, values};
 
 /// The answer of a clause, and the number of the clause that it rests on.
 #[derive(Clone, Copy, PartialEq, Eq, Debug)]
@@ -36,7 +36,7 @@ fn meets_nothing(label: Label) -> bool
         || contains(label.types, 0)
 }
 
-// What a clause asks its exceptions about. It asks them nothing where it gives the answer that is not the usual one of its kind.
+// The label that a clause asks its exceptions about. Where there is none it decides itself, and not as is usual for its kind.
 fn opened<V: Vocabulary>(scheme: &V, clause: ClauseRecord, label: Label) -> Option<Label>
     ensures { Opens (V.orders scheme.now) clause label result }
 {
@@ -108,12 +108,6 @@ impl<V: Vocabulary> Asked<'_, V> {
         if self.allows(label) {
             return 0;
         }
-        let mut left = label.types;
-        for v in 0..64u8 {
-            if contains(label.types, v) {
-                left = self.leave_out(label, left, v);
-            }
-        }
-        left
+        values(label.types).fold(label.types, |left, v| self.leave_out(label, left, v))
     }
 }
