@@ -1,14 +1,14 @@
 -- The first clause of a policy's words, and what comes after it.
 use Rattle.std.proofs.Common.{◌≡◌, ℕ, ◌+◌, ◌-◌, ◌<◌, ◌≤◌, cond, List, [], ◌∷◌, length, get_or, drop, Some, None, Option, Ok, Err, Result, sym, refl, ap, ◌∙◌, subst, arith, length-drop}
 use Rattle.std.proofs.lemmas.List.{drop-drop, drop_all, drop_more}
-use Rattle.std.proofs.lemmas.Bool.{eq-eqb, ne_eqb, or_left, or_right, lt-ltb}
+use Rattle.std.proofs.lemmas.Bool.{eq-eqb, ne_eqb}
 use Rattle.lattice.specs.declared.sizes.Sizes.{Sizes}
 use Rattle.policy.specs.declared.clause.Kind.{Kind}
 use Rattle.policy.specs.declared.draft.Phase.TheVariants.{Listing}
 use Rattle.policy.specs.declared.draft.Draft.{Draft}
 use Rattle.policy.specs.declared.clause.ClauseRecord.{ClauseRecord}
 use Rattle.refusals.specs.declared.refusal.Reason.{Reason}
-use Rattle.refusals.specs.declared.refusal.Reason.TheVariants.{MisplacedWord, WordCount}
+use Rattle.refusals.specs.declared.refusal.Reason.TheVariants.{MisplacedWord}
 use Rattle.refusals.specs.declared.refusal.Refusal.{Refusal}
 use Rattle.policy.specs.declared.word.Word.{Word}
 use Rattle.policy.specs.declared.word.Word.TheVariants.{Head, Value, Except, End}
@@ -158,9 +158,3 @@ pub draft_stops : (z : Sizes) (rs : List ClauseRecord) (ws : List ℕ) → 1 ≤
 draft_stops z rs ws lo hi x e =
     let x₀ : Records = record { opens = []; clauses = rs; count = 0 } in
     within z ws lo hi ∙ stopped (fault_from z nothing_read 0 ws) (walk (recorded z) z nothing_read x₀ 0 ws) x (agrees (recorded z) z ws nothing_read x₀ 0) (sym (from_zero z rs ws) ∙ e)
-
-pub none_given : (z : Sizes) (ws : List ℕ) → length ws ≡ 0 → words_fault z ws ≡ Some (record { reason = WordCount; place = 0 })
-none_given z ws e = ap (λ b. cond b (Some (record { reason = WordCount; place = 0 })) (fault_from z nothing_read 0 ws)) (or_left _ _ (eq-eqb (length ws) 0 e))
-
-pub too_many : (z : Sizes) (ws : List ℕ) → 4096 < length ws → words_fault z ws ≡ Some (record { reason = WordCount; place = 0 })
-too_many z ws h = ap (λ b. cond b (Some (record { reason = WordCount; place = 0 })) (fault_from z nothing_read 0 ws)) (or_right _ _ (lt-ltb 4096 (length ws) h))

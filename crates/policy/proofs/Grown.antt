@@ -53,9 +53,6 @@ checked_parts (Some u) f v e = by (f u) refl e
 pub checked_on : (o : Option Word) (f : Word → Option Reason) (v : Word) → o ≡ Some v → f v ≡ None → checked o f ≡ Ok v
 checked_on o f v e c = ap (λ q. checked q f) e ∙ ap (λ q. elim q [ Some y ↦ Err y | None ↦ Ok v ]) c
 
-pub checked_off : (o : Option Word) (f : Word → Option Reason) (v : Word) (y : Reason) → o ≡ Some v → f v ≡ Some y → checked o f ≡ Err y
-checked_off o f v y e c = ap (λ q. checked q f) e ∙ ap (λ q. elim q [ Some y ↦ Err y | None ↦ Ok v ]) c
-
 -- one step of a walk
 module _ {X : Type 0} (f : Reading → Word → X → X) (z : Sizes) (r : Reading) (x : X) (i w : ℕ) (ws : List ℕ) where
   pub walk_on : (v : Word) → admitted z r w ≡ Ok v → walk f z r x i (w ∷ ws) ≡ walk f z (advanced r v) (f r v x) (i + 1) ws
