@@ -1,6 +1,8 @@
 -- One word of a reader, as one step of the walk.
-use Rattle.std.proofs.Common.{◌≡◌, ℕ, suc, ◌+◌, ◌-◌, ◌*◌, ◌<◌, ◌≤◌, List, [], ◌∷◌, length, get_or, take, drop, Ok, Err, Result, sym, refl, ap, ◌∙◌, subst, arith, length-drop}
-use Rattle.std.proofs.lemmas.List.{drop-drop, take_rest}
+use Rattle.std.proofs.Common.{◌≡◌, ℕ, suc, ◌+◌, ◌-◌, ◌*◌, ◌<◌, ◌≤◌, List, [], ◌∷◌, ◌++◌, length, slice_set, get_or, take, drop, Ok, Err, Result, sym, refl, ap, ◌∙◌, subst, arith, length-drop, length-append, length-set}
+use Rattle.std.proofs.lemmas.List.{drop-drop, take_rest, take-append-le}
+use Rattle.std.proofs.Math.Seq.{take-length}
+use Rattle.std.specs.List.{refill}
 use Rattle.policy.specs.declared.clause.Kind.{Kind}
 use Rattle.policy.specs.declared.draft.Phase.TheVariants.{Listing, Excepting, Excepted}
 use Rattle.policy.specs.declared.draft.Open.{Open}
@@ -21,8 +23,9 @@ use Rattle.policy.proofs.Grown.{walk_on, walk_stop}
 -- the words `all` of a clause are read as far as `ws`: whatever the rest comes to, all of them come to
 pub record Along (k : Kind) (depth : ℕ) (start : Draft) (all : List ℕ) (number : ℕ) (o : Open) (d : Draft) (x : ClauseRecord) (ws : List ℕ) : Type 0 where
   pub ready : Ready o d ws
-  pub given : number ≡ start.count
-  pub on : (r : Result ℕ Refusal) (e : Draft) (y : ClauseRecord) → Reads k o d x ws r e y → Reads k (just_open depth) (numbered start) (fresh k) all r e y
+  pub given : number ≡ length start.clauses.items
+  pub inside : number < length d.clauses.items
+  pub on : (r : Result ℕ Refusal) (e : Draft) (y : ClauseRecord) → Reads k o d x ws r e y → Reads k (just_open depth) (numbered k start) (fresh k) all r e y
 
 -- `rest` of the pattern `[first, rest @ ..]`
 abbrev pub tail : List ℕ → List ℕ
@@ -32,19 +35,23 @@ pub tail_is : (ws : List ℕ) → tail ws ≡ drop 1 ws
 tail_is ws = take_rest ws 1
 
 abbrev reading : Kind → Open → Draft → List Frame → Reading
-reading k o d fs = record { open_clauses = frame_of k o ∷ fs; heads = d.count }
+reading k o d fs = record { open_clauses = frame_of k o ∷ fs; heads = (length d.clauses.items) }
 
 abbrev records : Draft → List Slot → Records
-records d ss = record { opens = ss; clauses = d.clauses; count = d.count }
+records d ss = record { opens = ss; clauses = d.clauses.items }
 
 -- the first of the words, as it is taken inside the open clause
 abbrev pub seen : Kind → Open → Draft → List ℕ → Result Word Reason
-seen k o d ws = checked (word_of (get_or ws 0 0)) (fault_in d.sizes o.depth d.count k o.last o.phase)
+seen k o d ws = checked (word_of (get_or ws 0 0)) (fault_in d.sizes o.depth (length d.clauses.items) k o.last o.phase)
+
+pub seen_by : (k : Kind) (o : Open) (d : Draft) (ws : List ℕ) (n : ℕ) (r : Result Word Reason) → n ≡ length d.clauses.items
+    → r ≡ checked (word_of (get_or ws 0 0)) (fault_in d.sizes o.depth n k o.last o.phase) → seen k o d ws ≡ r
+seen_by k o d ws n r e h = ap (λ m. checked (word_of (get_or ws 0 0)) (fault_in d.sizes o.depth m k o.last o.phase)) (sym e) ∙ sym h
 
 seen_as : (k : Kind) (o : Open) (d : Draft) (w : ℕ) (ws : List ℕ) (fs : List Frame) → length fs + 1 ≡ o.depth → admitted d.sizes (reading k o d fs) w ≡ seen k o d (w ∷ ws)
 seen_as k o d w ws fs el =
     let deep : suc (length fs) ≡ o.depth = omega arith in
-    ap (λ n. checked (word_of w) (fault_in d.sizes n d.count k o.last o.phase)) deep
+    ap (λ n. checked (word_of w) (fault_in d.sizes n (length d.clauses.items) k o.last o.phase)) deep
 
 -- the end of the words
 pub stops_none : (k : Kind) (o : Open) (d : Draft) (x : ClauseRecord) (ws : List ℕ) → length ws < 1 → Stops k o d x ws (record { reason = MisplacedWord; place = d.total - length ws })
@@ -70,7 +77,7 @@ goes_on k o d (w ∷ ws) h hi v e fs ss el =
     ∙ ap (λ i. walk (recorded d.sizes) d.sizes (advanced (reading k o d fs) v) (recorded d.sizes (reading k o d fs) v (records d ss)) i ws) p
 
 -- the same clause is read on from a later place
-module _ (k : Kind) (o o' : Open) (d d' : Draft) (x x' : ClauseRecord) (ws : List ℕ) (m : ℕ) (low : 1 ≤ m) (high : m ≤ length ws) (grows : d.count ≤ d'.count) (sizes : d'.sizes ≡ d.sizes) (total : d'.total ≡ d.total) (deep : o'.depth ≡ o.depth)
+module _ (k : Kind) (o o' : Open) (d d' : Draft) (x x' : ClauseRecord) (ws : List ℕ) (m : ℕ) (low : 1 ≤ m) (high : m ≤ length ws) (grows : (length d.clauses.items) ≤ (length d'.clauses.items)) (sizes : d'.sizes ≡ d.sizes) (total : d'.total ≡ d.total) (deep : o'.depth ≡ o.depth)
     (step : (fs : List Frame) (ss : List Slot) (n : ℕ) → length fs + 1 ≡ o.depth → goes d (frame_of k o ∷ fs) (slot n x ∷ ss) ws ≡ goes d' (frame_of k o' ∷ fs) (slot n x' ∷ ss) (drop m ws)) where
   rest_of_rest : (left : ℕ) → left < length (drop m ws) → drop (length (drop m ws) - left) (drop m ws) ≡ drop (length ws - left) ws
   rest_of_rest left h =
@@ -116,7 +123,7 @@ module _ (k : Kind) (o : Open) (d : Draft) (x : ClauseRecord) (ws : List ℕ) (s
       later k o (record { phase = o.phase; last = a * 256 + v; depth = o.depth }) d d x (with_value a v x)
       ws 1 (omega arith) some (omega arith) refl refl refl (λ fs ss n el. on_by (Value a v) is fs (slot n x ∷ ss) el) r e y h₃
 
-  at_end : w ≡ End → (y : ClauseRecord) → y ≡ closed d.sizes d.count x → Closes k o d x ws (length (tail ws)) d y
+  at_end : w ≡ End → (y : ClauseRecord) → y ≡ closed d.sizes (length d.clauses.items) x → Closes k o d x ws (length (tail ws)) d y
   at_end is y ey =
       let n : length (tail ws) ≡ length ws - 1 = ap length (tail_is ws) ∙ length-drop 1 ws in
       let one : 1 ≡ length ws - length (tail ws) = omega arith in
@@ -127,48 +134,60 @@ module _ (k : Kind) (o : Open) (d : Draft) (x : ClauseRecord) (ws : List ℕ) (s
         sizes = refl;
         total = refl;
         on = λ fs ss n el. on_by End is fs (slot n x ∷ ss) el
-            ∙ (ap (λ q. goes (stored d n q) (ended fs) ss (drop 1 ws)) (sym ey)
-            ∙ ap (λ i. goes (stored d n y) (ended fs) ss (drop i ws)) one);
+            ∙ ap (λ q. walk (recorded d.sizes) d.sizes (record { open_clauses = ended fs; heads = length d.clauses.items }) (record { opens = ss; clauses = slice_set d.clauses.items n q }) (d.total - length (drop 1 ws)) (drop 1 ws)) (sym ey)
+            ∙ ap (λ h. walk (recorded d.sizes) d.sizes (record { open_clauses = ended fs; heads = h }) (record { opens = ss; clauses = slice_set d.clauses.items n y }) (d.total - length (drop 1 ws)) (drop 1 ws)) (sym (length-set d.clauses.items n y))
+            ∙ ap (λ i. goes (stored d n y) (ended fs) ss (drop i ws)) one;
       }
 
   -- a head: the inner clause, then the rest of this one
   abbrev inner : Open
   inner = record { phase = Listing; last = 0; depth = o.depth + 1 }
 
-  at_head_stops : (k' : Kind) → w ≡ Head k' → (r : Refusal) → Stops k' inner (numbered d) (fresh k') (tail ws) r → Stops k o d x ws r
+  on_head : (k' : Kind) → w ≡ Head k' → (fs : List Frame) (ss : List Slot) → length fs + 1 ≡ o.depth
+      → goes d (frame_of k o ∷ fs) ss ws ≡ goes (numbered k' d) (frame_of k' inner ∷ frame_of k o ∷ fs) (slot (length d.clauses.items) (fresh k') ∷ ss) (drop 1 ws)
+  on_head k' is fs ss el =
+      let n : length d.clauses.items + 1 ≡ length (d.clauses.items ++ fresh k' ∷ []) = sym (length-append d.clauses.items (fresh k' ∷ [])) in
+      on_by (Head k') is fs ss el
+      ∙ ap (λ h. walk (recorded d.sizes) d.sizes (record { open_clauses = frame_of k' inner ∷ frame_of k o ∷ fs; heads = h })
+      (record { opens = slot (length d.clauses.items) (fresh k') ∷ ss; clauses = d.clauses.items ++ fresh k' ∷ [] }) (d.total - length (drop 1 ws)) (drop 1 ws)) n
+
+  at_head_stops : (k' : Kind) → w ≡ Head k' → (r : Refusal) → Stops k' inner (numbered k' d) (fresh k') (tail ws) r → Stops k o d x ws r
   at_head_stops k' is r h fs ss n el =
-      let h₁ : Stops k' inner (numbered d) (fresh k') (drop 1 ws) r = subst (λ u. Stops k' inner (numbered d) (fresh k') u r) (tail_is ws) h in
-      on_by (Head k') is fs (slot n x ∷ ss) el ∙ h₁ (frame_of k o ∷ fs) (slot n x ∷ ss) d.count (let z : suc (length fs) + 1 ≡ o.depth + 1 = omega arith in z)
+      let h₁ : Stops k' inner (numbered k' d) (fresh k') (drop 1 ws) r = subst (λ u. Stops k' inner (numbered k' d) (fresh k') u r) (tail_is ws) h in
+      on_head k' is fs (slot n x ∷ ss) el ∙ h₁ (frame_of k o ∷ fs) (slot n x ∷ ss) (length d.clauses.items) (let z : suc (length fs) + 1 ≡ o.depth + 1 = omega arith in z)
 
   abbrev later_open : Open
   later_open = record { phase = Excepted; last = o.last; depth = o.depth }
 
-  at_head_on : (k' : Kind) → w ≡ Head k' → (left : ℕ) (e : Draft) (y : ClauseRecord) → Closes k' inner (numbered d) (fresh k') (tail ws) left e y
-      → (u : List ℕ) → u ≡ drop (length (tail ws) - left) (tail ws) → (r : Result ℕ Refusal) (g : Draft) (q : ClauseRecord) → Reads k later_open (stored e d.count y) x u r g q → Reads k o d x ws r g q
+  at_head_on : (k' : Kind) → w ≡ Head k' → (left : ℕ) (e : Draft) (y : ClauseRecord) → Closes k' inner (numbered k' d) (fresh k') (tail ws) left e y
+      → (u : List ℕ) → u ≡ drop (length (tail ws) - left) (tail ws) → (r : Result ℕ Refusal) (g : Draft) (q : ClauseRecord) → Reads k later_open (stored e (length d.clauses.items) y) x u r g q → Reads k o d x ws r g q
   at_head_on k' is left e y c u eu r g q h =
       let n : length (tail ws) ≡ length ws - 1 = ap length (tail_is ws) ∙ length-drop 1 ws in
       let n' : length (drop 1 ws) ≡ length ws - 1 = length-drop 1 ws in
-      let c₁ : Closes k' inner (numbered d) (fresh k') (drop 1 ws) left e y = subst (λ u. Closes k' inner (numbered d) (fresh k') u left e y) (tail_is ws) c in
+      let c₁ : Closes k' inner (numbered k' d) (fresh k') (drop 1 ws) left e y = subst (λ u. Closes k' inner (numbered k' d) (fresh k') u left e y) (tail_is ws) c in
       let low : left < length (drop 1 ws) = c₁.shorter in
       let m : ℕ = length ws - left in
       let em : 1 + (length (drop 1 ws) - left) ≡ m = omega arith in
       let e₁ : drop (length (drop 1 ws) - left) (drop 1 ws) ≡ drop m ws = drop-drop (length (drop 1 ws) - left) 1 ws ∙ ap (λ i. drop i ws) em in
       let e₂ : u ≡ drop m ws = eu ∙ (ap (λ v. drop (length v - left) v) (tail_is ws) ∙ e₁) in
-      let h₁ : Reads k later_open (stored e d.count y) x (drop m ws) r g q = subst (λ v. Reads k later_open (stored e d.count y) x v r g q) e₂ h in
-      later k o later_open d (stored e d.count y) x x ws m (omega arith) (omega arith) (let q : d.count + 1 ≤ e.count = c₁.grows in omega arith) c₁.sizes c₁.total refl
-      (λ fs ss n el. on_by (Head k') is fs (slot n x ∷ ss) el
-      ∙ (c₁.on (frame_of k o ∷ fs) (slot n x ∷ ss) d.count (let z : suc (length fs) + 1 ≡ o.depth + 1 = omega arith in z) ∙ ap (λ v. goes (stored e d.count y) (frame_of k later_open ∷ fs) (slot n x ∷ ss) v) e₁))
+      let h₁ : Reads k later_open (stored e (length d.clauses.items) y) x (drop m ws) r g q = subst (λ v. Reads k later_open (stored e (length d.clauses.items) y) x v r g q) e₂ h in
+      later k o later_open d (stored e (length d.clauses.items) y) x x ws m (omega arith) (omega arith) (omega (arith, c₁.grows, length-append d.clauses.items (fresh k' ∷ []), length-set e.clauses.items (length d.clauses.items) y)) c₁.sizes c₁.total refl
+      (λ fs ss n el. on_head k' is fs (slot n x ∷ ss) el
+      ∙ (c₁.on (frame_of k o ∷ fs) (slot n x ∷ ss) (length d.clauses.items) (let z : suc (length fs) + 1 ≡ o.depth + 1 = omega arith in z) ∙ ap (λ v. goes (stored e (length d.clauses.items) y) (frame_of k later_open ∷ fs) (slot n x ∷ ss) v) e₁))
       r g q h₁
+
+refilled : (xs ys : List ClauseRecord) → length ys ≡ length xs → refill (length xs) xs ys ≡ ys
+refilled xs ys e = let le : length ys ≤ length ys = omega arith in rw (← e) (rw take-append-le (take-length ys))
 
 -- one word more of the clause
 module _ (k : Kind) (depth : ℕ) (start : Draft) (all : List ℕ) (number : ℕ) (o : Open) (d : Draft) (x : ClauseRecord) (ws : List ℕ) (a : Along k depth start all number o d x ws) where
-  pub along_none : length ws < 1 → Stops k (just_open depth) (numbered start) (fresh k) all (record { reason = MisplacedWord; place = d.total })
+  pub along_none : length ws < 1 → Stops k (just_open depth) (numbered k start) (fresh k) all (record { reason = MisplacedWord; place = d.total })
   along_none h =
       let p : d.total - length ws ≡ d.total = omega arith in
       a.on (Err (record { reason = MisplacedWord; place = d.total })) d x (subst (λ i. Stops k o d x ws (record { reason = MisplacedWord; place = i })) p (stops_none k o d x ws h))
 
   module _ (some : 1 ≤ length ws) where
-    pub along_fault : (y : Reason) → seen k o d ws ≡ Err y → Stops k (just_open depth) (numbered start) (fresh k) all (record { reason = y; place = d.total - length ws })
+    pub along_fault : (y : Reason) → seen k o d ws ≡ Err y → Stops k (just_open depth) (numbered k start) (fresh k) all (record { reason = y; place = d.total - length ws })
     along_fault y ey = a.on (Err (record { reason = y; place = d.total - length ws })) d x (stops_at k o d x ws some y ey)
 
     module _ (w : Word) (ew : seen k o d ws ≡ Ok w) where
@@ -179,6 +198,7 @@ module _ (k : Kind) (depth : ℕ) (start : Draft) (all : List ℕ) (number : ℕ
       along_except is = record {
         ready = record { room = a.ready.room; deep = a.ready.deep; within = fewer; sized = a.ready.sized };
         given = a.given;
+        inside = a.inside;
         on = λ r e y h. a.on r e y (at_except k o d x ws some a.ready w ew is r e y h);
       }
 
@@ -187,11 +207,25 @@ module _ (k : Kind) (depth : ℕ) (start : Draft) (all : List ℕ) (number : ℕ
       along_value v n is x' ex last el = record {
         ready = record { room = a.ready.room; deep = a.ready.deep; within = fewer; sized = a.ready.sized };
         given = a.given;
+        inside = a.inside;
         on = λ r e y h. a.on r e y (at_value k o d x ws some a.ready w ew v n is x' ex last el r e y h);
       }
 
-      pub along_end : w ≡ End → (y : ClauseRecord) → y ≡ closed d.sizes d.count x → Behind k depth start all (Ok (length (tail ws))) (stored d number y)
-      along_end is y ey = (d, (y, (a.on (Ok (length (tail ws))) d y (at_end k o d x ws some a.ready w ew is y ey), ap (λ n. stored d n y) a.given)))
+      -- the record is written through the slice that is lent for it
+      pub along_end : w ≡ End → (y : ClauseRecord) → y ≡ closed d.sizes (length d.clauses.items) x → (lent : List ClauseRecord) → lent ≡ d.clauses.items
+          → Behind k depth start all (Ok (length (tail ws))) (record { clauses = record { items = refill (length d.clauses.items) d.clauses.items (slice_set lent number y) }; sizes = d.sizes; total = d.total })
+      along_end is y ey lent el = (
+        d,
+        (
+          y,
+          (
+            a.on (Ok (length (tail ws))) d y (at_end k o d x ws some a.ready w ew is y ey),
+            ap (λ rs. record { clauses = record { items = refill (length d.clauses.items) d.clauses.items (slice_set rs number y) }; sizes = d.sizes; total = d.total }) el
+                ∙ ap (λ rs. record { clauses = record { items = rs }; sizes = d.sizes; total = d.total }) (refilled d.clauses.items (slice_set d.clauses.items number y) (length-set d.clauses.items number y))
+                ∙ ap (λ n. stored d n y) a.given,
+          ),
+        ),
+      )
 
       module _ (k' : Kind) (is : w ≡ Head k') where
         pub along_head_stops : (r : Refusal) (e : Draft) → Behind k' o.depth d (tail ws) (Err r) e → Behind k depth start all (Err r) e
@@ -200,15 +234,17 @@ module _ (k : Kind) (depth : ℕ) (start : Draft) (all : List ℕ) (number : ℕ
         pub along_head : (left : ℕ) (e : Draft) → Behind k' o.depth d (tail ws) (Ok left) e → (u : List ℕ) → u ≡ drop (length (tail ws) - left) (tail ws)
             → Along k depth start all number (record { phase = Excepted; last = o.last; depth = o.depth }) e x u
         along_head left e (g, (y, (c, q))) u eu =
-            let grows : d.count + 1 ≤ g.count = c.grows in
+            let same : length (slice_set g.clauses.items (length d.clauses.items) y) ≡ length g.clauses.items = length-set g.clauses.items (length d.clauses.items) y in
+            let one : length (d.clauses.items ++ fresh k' ∷ []) ≡ length d.clauses.items + 1 = length-append d.clauses.items (fresh k' ∷ []) in
             let m : length u ≤ length (tail ws) = omega (arith, ap length eu, length-drop (length (tail ws) - left) (tail ws)) in
             subst (λ f. Along k depth start all number (record { phase = Excepted; last = o.last; depth = o.depth }) f x u) (sym q) (record {
               ready = record {
-                room = c.room;
-                deep = omega (arith, a.ready.deep);
+                room = omega (arith, c.room);
+                deep = omega (arith, a.ready.deep, c.grows);
                 within = omega (arith, fewer, c.total);
                 sized = subst Sized (sym c.sizes) a.ready.sized;
               };
               given = a.given;
+              inside = omega (arith, a.inside, c.grows);
               on = λ r f z h. a.on r f z (at_head_on k o d x ws some a.ready w ew k' is left g y c u eu r f z h);
             })

@@ -1,5 +1,5 @@
 -- Reading word by word with something that is made on the way. Assumes nothing.
-use Rattle.std.specs.Prelude.{ℕ, ◌+◌, ◌^◌, cond, List, [], ◌∷◌, Ok, Err, Result, ◌==◌, bit_or, slice_set}
+use Rattle.std.specs.Prelude.{ℕ, ◌+◌, ◌^◌, cond, List, [], ◌∷◌, ◌++◌, Ok, Err, Result, ◌==◌, bit_or, slice_set}
 use Rattle.policy.specs.declared.label.Label.{Label}
 use Rattle.lattice.specs.declared.sizes.Sizes.{Sizes}
 use Rattle.policy.specs.declared.clause.Kind.{Kind}
@@ -41,11 +41,10 @@ pub record Slot : Type 0 where
   pub number : ℕ
   pub filling : ClauseRecord
 
--- the open clauses, the records of those that ended, and how many numbers are given
+-- the open clauses, and a record for each head: that of an open clause has no list and no end yet
 pub record Records : Type 0 where
   pub opens : List Slot
   pub clauses : List ClauseRecord
-  pub count : ℕ
 
 abbrev pub top_with : ℕ → ℕ → List Slot → List Slot
 top_with a c [] = []
@@ -60,7 +59,7 @@ rest_of [] = []
 rest_of (s ∷ ss) = ss
 
 abbrev pub recorded : Sizes → Reading → Word → Records → Records
-recorded z r (Head k) x = record { opens = record { number = r.heads; filling = fresh k } ∷ x.opens; clauses = x.clauses; count = r.heads + 1 }
-recorded z r (Value a c) x = record { opens = top_with a c x.opens; clauses = x.clauses; count = x.count }
+recorded z r (Head k) x = record { opens = record { number = r.heads; filling = fresh k } ∷ x.opens; clauses = x.clauses ++ fresh k ∷ [] }
+recorded z r (Value a c) x = record { opens = top_with a c x.opens; clauses = x.clauses }
 recorded z r Except x = x
-recorded z r End x = record { opens = rest_of x.opens; clauses = top_ended z r.heads x.opens x.clauses; count = x.count }
+recorded z r End x = record { opens = rest_of x.opens; clauses = top_ended z r.heads x.opens x.clauses }

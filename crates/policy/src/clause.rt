@@ -4,8 +4,9 @@ ghost use Rattle.policy.specs.Records.{is_allow};
 
 use crate::label::Label;
 
-#[derive(Clone, Copy, PartialEq, Eq, Debug)]
+#[derive(Clone, Copy, PartialEq, Eq, Debug, Default)]
 pub(crate) enum Kind {
+    #[default]
     Allow,
     Deny,
 }
@@ -19,7 +20,7 @@ impl Kind {
     }
 }
 
-#[derive(Clone, Copy)]
+#[derive(Clone, Copy, Default)]
 pub(crate) struct ClauseRecord {
     pub(crate) kind: Kind,
     pub(crate) list: Label,

@@ -1,5 +1,6 @@
 //! A policy whose words are being read.
 use crate::clause::ClauseRecord;
+use arrayvec::ArrayVec;
 use lattice::Sizes;
 
 /// Where the reading of a clause stands: among its values, right after EXCEPT, or after an exception.
@@ -21,8 +22,7 @@ pub(crate) struct Open {
 /// The records of a policy whose words are being read; `total` is the number of all its words.
 #[derive(Drop)]
 pub(crate) struct Draft {
-    pub(crate) clauses: [ClauseRecord; 256],
-    pub(crate) count: usize,
+    pub(crate) clauses: ArrayVec<ClauseRecord, 256>,
     pub(crate) sizes: Sizes,
     pub(crate) total: usize,
 }

@@ -44,12 +44,7 @@ impl ClauseRecord {
     {
         ClauseRecord {
             kind,
-            list: Label {
-                store: 0,
-                purpose: 0,
-                role: 0,
-                types: 0,
-            },
+            list: Label::default(),
             end: 0,
         }
     }

@@ -1,5 +1,5 @@
 //! The reader of clauses, which calls itself for an exception.
-ghost use Rattle.std.specs.Prelude.{◌≡◌, ◌≤◌, length};
+ghost use Rattle.std.specs.Prelude.{◌≡◌, ◌≤◌, [], length};
 ghost use Rattle.policy.specs.Reads.{Ready, Behind, Begun, Firsts, just_open, numbered, stray_reason};
 ghost use Rattle.policy.specs.Sized.{Sized};
 ghost use Rattle.policy.specs.Stands.{Drafted};
@@ -8,6 +8,7 @@ use crate::clause::{ClauseRecord, Kind};
 use crate::draft::{Draft, Open, Phase};
 use crate::faults::admitted;
 use crate::word::{Word, word_of};
+use arrayvec::ArrayVec;
 use lattice::{Reason, Refusal, Sizes};
 
 impl Open {
@@ -28,17 +29,17 @@ impl Draft {
     /// Reads a clause inside `depth` others from the word behind its head on. It has the next number.
     /// Says how many words are left after its END.
     fn read_behind(&mut self, kind: Kind, depth: usize, words: &[u32]) -> Result<usize, Refusal>
-        requires { Ready (just_open depth) (numbered self.old) words.now }
+        requires { Ready (just_open depth) (numbered kind self.old) words.now }
         ensures { Behind kind depth self.old words.now result self.new }
     {
-        let number = self.count;
-        self.count = number + 1;
+        let number = self.clauses.len();
         let mut own = ClauseRecord::opened(kind);
+        self.clauses.push(own);
         let mut top = Open::inside(depth);
         let mut left = words;
         while let [first, rest @ ..] = left {
             let place = self.total - left.len();
-            let word = admitted(self.sizes, self.count, kind, top, *first).map_err(
+            let word = admitted(self.sizes, self.clauses.len(), kind, top, *first).map_err(
                 |reason| reason.at(place),
             )?;
             left = rest;
@@ -54,7 +55,7 @@ impl Draft {
                 }
                 Word::Except => top.phase = Phase::Excepting,
                 Word::End => {
-                    own.close(self.sizes, self.count as u16);
+                    own.close(self.sizes, self.clauses.len() as u16);
                     self.clauses[number] = own;
                     return Ok(rest.len());
                 }
@@ -65,7 +66,7 @@ impl Draft {
 
     /// Reads the first clause from its head on, and says how many words are left after its END.
     fn read_first(&mut self, words: &[u32]) -> Result<usize, Refusal>
-        requires { (self.old.count ≡ 0) × ((self.old.total ≡ length words.now) × (Sized self.old.sizes)) }
+        requires { (self.old.clauses.items ≡ []) × ((self.old.total ≡ length words.now) × (Sized self.old.sizes)) }
         ensures { Begun self.old words.now result self.new }
     {
         let [first, rest @ ..] = words else {
@@ -79,7 +80,7 @@ impl Draft {
 
     /// Reads a policy's words, all of them.
     fn read_words(&mut self, words: &[u32]) -> Result<(), Refusal>
-        requires { (self.old.count ≡ 0) × ((self.old.total ≡ length words.now) × (Sized self.old.sizes)) }
+        requires { (self.old.clauses.items ≡ []) × ((self.old.total ≡ length words.now) × (Sized self.old.sizes)) }
         ensures { Firsts self.old words.now result self.new }
     {
         let left = self.read_first(words)?;
@@ -99,8 +100,7 @@ impl Draft {
             return Err(Reason::WordCount.at(0));
         }
         let mut draft = Draft {
-            clauses: [ClauseRecord::opened(Kind::Allow); 256],
-            count: 0,
+            clauses: ArrayVec::new(),
             sizes,
             total: words.len(),
         };

@@ -27,7 +27,7 @@ impl Policy {
     {
         Asked {
             scheme,
-            records: &self.clauses[0..self.count],
+            records: &self.clauses,
             number: 0,
         }
     }

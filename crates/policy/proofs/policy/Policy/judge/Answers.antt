@@ -1,4 +1,3 @@
-use Rattle.std.proofs.Common.{take}
 use Rattle.policy.specs.Records.{tree}
 use Rattle.policy.proofs.Verdicts.{just_verdict}
 use Rattle.policy.proofs.policy.Policy.judge.Goals as goal
@@ -10,7 +9,7 @@ returns g c =
       passed = c.decide-decision.ensures.passed;
       clause = c.decide-decision.ensures.clause;
       evidence = c.evidence.ensures;
-      just = just_verdict (g.V.Vocabulary.orders c.args.scheme.now) (g.met.V.Vocabulary.lawful c.args.scheme.now) (tree (take own.count own.clauses) 0) c.args.label
+      just = just_verdict (g.V.Vocabulary.orders c.args.scheme.now) (g.met.V.Vocabulary.lawful c.args.scheme.now) (tree own.clauses.items 0) c.args.label
           c.decide-decision.result.passed c.decide-decision.result.clause c.evidence.result
           c.decide-decision.ensures.passed c.decide-decision.ensures.clause c.evidence.ensures;
     }
