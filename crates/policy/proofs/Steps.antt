@@ -1,10 +1,11 @@
 -- One word of a reader, as one step of the walk.
-use Rattle.std.proofs.Common.{◌≡◌, ℕ, suc, ◌+◌, ◌-◌, ◌*◌, ◌<◌, ◌≤◌, List, [], ◌∷◌, ◌++◌, length, slice_set, get_or, take, drop, Ok, Err, Result, sym, refl, ap, ◌∙◌, subst, arith, length-drop, length-append, length-set}
+use Rattle.std.proofs.Common.{◌≡◌, ℕ, suc, ◌+◌, ◌-◌, ◌<◌, ◌≤◌, List, [], ◌∷◌, ◌++◌, length, slice_set, get_or, take, drop, Ok, Err, Result, sym, refl, ap, ◌∙◌, subst, arith, length-drop, length-append, length-set}
 use Rattle.std.proofs.lemmas.List.{drop-drop, take_rest, take-append-le}
 use Rattle.std.proofs.Math.Seq.{take-length}
 use Rattle.std.specs.List.{refill}
+use Rattle.arrayvec.specs.ArrayVec.{ArrayVec}
 use Rattle.policy.specs.declared.clause.Kind.{Kind}
-use Rattle.policy.specs.declared.draft.Phase.TheVariants.{Listing, Excepting, Excepted}
+use Rattle.policy.specs.declared.draft.Phase.TheVariants.{Excepting, Excepted}
 use Rattle.policy.specs.declared.draft.Open.{Open}
 use Rattle.policy.specs.declared.draft.Draft.{Draft}
 use Rattle.policy.specs.declared.clause.ClauseRecord.{ClauseRecord}
@@ -14,7 +15,7 @@ use Rattle.refusals.specs.declared.refusal.Refusal.{Refusal}
 use Rattle.policy.specs.declared.word.Word.{Word}
 use Rattle.policy.specs.declared.word.Word.TheVariants.{Head, Value, Except, End}
 use Rattle.policy.specs.Decode.{word_of}
-use Rattle.policy.specs.Words.{Frame, Reading, checked, admitted, fault_in, advanced, ended}
+use Rattle.policy.specs.Words.{Frame, position, Reading, checked, admitted, fault_in, advanced, ended}
 use Rattle.policy.specs.Walk.{walk, Slot, Records, recorded, fresh, with_value, closed}
 use Rattle.policy.specs.Reads.{Ready, frame_of, slot, goes, stored, numbered, just_open, Closes, Stops, Reads, Behind}
 use Rattle.policy.specs.Sized.{Sized}
@@ -42,16 +43,16 @@ records d ss = record { opens = ss; clauses = d.clauses.items }
 
 -- the first of the words, as it is taken inside the open clause
 abbrev pub seen : Kind → Open → Draft → List ℕ → Result Word Reason
-seen k o d ws = checked (word_of (get_or ws 0 0)) (fault_in d.sizes o.depth (length d.clauses.items) k o.last o.phase)
+seen k o d ws = checked (word_of (get_or ws 0 0)) (fault_in d.sizes o.depth (length d.clauses.items) k (position o.last.0 o.last.1) o.phase)
 
 pub seen_by : (k : Kind) (o : Open) (d : Draft) (ws : List ℕ) (n : ℕ) (r : Result Word Reason) → n ≡ length d.clauses.items
-    → r ≡ checked (word_of (get_or ws 0 0)) (fault_in d.sizes o.depth n k o.last o.phase) → seen k o d ws ≡ r
-seen_by k o d ws n r e h = ap (λ m. checked (word_of (get_or ws 0 0)) (fault_in d.sizes o.depth m k o.last o.phase)) (sym e) ∙ sym h
+    → r ≡ checked (word_of (get_or ws 0 0)) (fault_in d.sizes o.depth n k (position o.last.0 o.last.1) o.phase) → seen k o d ws ≡ r
+seen_by k o d ws n r e h = ap (λ m. checked (word_of (get_or ws 0 0)) (fault_in d.sizes o.depth m k (position o.last.0 o.last.1) o.phase)) (sym e) ∙ sym h
 
 seen_as : (k : Kind) (o : Open) (d : Draft) (w : ℕ) (ws : List ℕ) (fs : List Frame) → length fs + 1 ≡ o.depth → admitted d.sizes (reading k o d fs) w ≡ seen k o d (w ∷ ws)
 seen_as k o d w ws fs el =
     let deep : suc (length fs) ≡ o.depth = omega arith in
-    ap (λ n. checked (word_of w) (fault_in d.sizes n (length d.clauses.items) k o.last o.phase)) deep
+    ap (λ n. checked (word_of w) (fault_in d.sizes n (length d.clauses.items) k (position o.last.0 o.last.1) o.phase)) deep
 
 -- the end of the words
 pub stops_none : (k : Kind) (o : Open) (d : Draft) (x : ClauseRecord) (ws : List ℕ) → length ws < 1 → Stops k o d x ws (record { reason = MisplacedWord; place = d.total - length ws })
@@ -112,16 +113,15 @@ module _ (k : Kind) (o : Open) (d : Draft) (x : ClauseRecord) (ws : List ℕ) (s
       later k o (record { phase = Excepting; last = o.last; depth = o.depth }) d d x x ws 1 (omega arith) some (omega arith) refl refl refl (λ fs ss n el. on_by Except is fs (slot n x ∷ ss) el) r e y
       (subst (λ u. Reads k (record { phase = Excepting; last = o.last; depth = o.depth }) d x u r e y) (tail_is ws) h)
 
-  at_value : (a v : ℕ) → w ≡ Value a v → (x' : ClauseRecord) → x' ≡ with_value a v x → (last : ℕ) → last ≡ a * 256 + v → (r : Result ℕ Refusal) (e : Draft) (y : ClauseRecord)
-      → Reads k (record { phase = o.phase; last = last; depth = o.depth }) d x' (tail ws) r e y
+  at_value : (a v : ℕ) → w ≡ Value a v → (x' : ClauseRecord) → x' ≡ with_value a v x → (r : Result ℕ Refusal) (e : Draft) (y : ClauseRecord)
+      → Reads k (record { phase = o.phase; last = (a, v); depth = o.depth }) d x' (tail ws) r e y
       → Reads k o d x ws r e y
-  at_value a v is x' ex last el r e y h =
-      let P : ClauseRecord → ℕ → List ℕ → Type 0 = λ q l u. Reads k (record { phase = o.phase; last = l; depth = o.depth }) d q u r e y in
-      let h₁ : P (with_value a v x) last (tail ws) = subst (λ q. P q last (tail ws)) ex h in
-      let h₂ : P (with_value a v x) (a * 256 + v) (tail ws) = subst (λ q. P (with_value a v x) q (tail ws)) el h₁ in
-      let h₃ : P (with_value a v x) (a * 256 + v) (drop 1 ws) = subst (λ q. P (with_value a v x) (a * 256 + v) q) (tail_is ws) h₂ in
-      later k o (record { phase = o.phase; last = a * 256 + v; depth = o.depth }) d d x (with_value a v x)
-      ws 1 (omega arith) some (omega arith) refl refl refl (λ fs ss n el. on_by (Value a v) is fs (slot n x ∷ ss) el) r e y h₃
+  at_value a v is x' ex r e y h =
+      let P : ClauseRecord → List ℕ → Type 0 = λ q u. Reads k (record { phase = o.phase; last = (a, v); depth = o.depth }) d q u r e y in
+      let h₁ : P (with_value a v x) (tail ws) = subst (λ q. P q (tail ws)) ex h in
+      let h₂ : P (with_value a v x) (drop 1 ws) = subst (λ q. P (with_value a v x) q) (tail_is ws) h₁ in
+      later k o (record { phase = o.phase; last = (a, v); depth = o.depth }) d d x (with_value a v x)
+      ws 1 (omega arith) some (omega arith) refl refl refl (λ fs ss n el. on_by (Value a v) is fs (slot n x ∷ ss) el) r e y h₂
 
   at_end : w ≡ End → (y : ClauseRecord) → y ≡ closed d.sizes (length d.clauses.items) x → Closes k o d x ws (length (tail ws)) d y
   at_end is y ey =
@@ -141,7 +141,7 @@ module _ (k : Kind) (o : Open) (d : Draft) (x : ClauseRecord) (ws : List ℕ) (s
 
   -- a head: the inner clause, then the rest of this one
   abbrev inner : Open
-  inner = record { phase = Listing; last = 0; depth = o.depth + 1 }
+  inner = just_open o.depth
 
   on_head : (k' : Kind) → w ≡ Head k' → (fs : List Frame) (ss : List Slot) → length fs + 1 ≡ o.depth
       → goes d (frame_of k o ∷ fs) ss ws ≡ goes (numbered k' d) (frame_of k' inner ∷ frame_of k o ∷ fs) (slot (length d.clauses.items) (fresh k') ∷ ss) (drop 1 ws)
@@ -179,6 +179,16 @@ module _ (k : Kind) (o : Open) (d : Draft) (x : ClauseRecord) (ws : List ℕ) (s
 refilled : (xs ys : List ClauseRecord) → length ys ≡ length xs → refill (length xs) xs ys ≡ ys
 refilled xs ys e = let le : length ys ≤ length ys = omega arith in rw (← e) (rw take-append-le (take-length ys))
 
+pub along_start : (k : Kind) (depth : ℕ) (start : Draft) (all : List ℕ) (number : ℕ) → Ready (just_open depth) (numbered k start) all → number ≡ length start.clauses.items
+    → (o : Open) → o ≡ just_open depth → (x : ClauseRecord) → x ≡ fresh k → (v : ArrayVec ClauseRecord) → v.items ≡ start.clauses.items ++ x ∷ []
+    → Along k depth start all number o (record { clauses = v; sizes = start.sizes; total = start.total }) x all
+along_start k depth start all number ready given o eo x ex v ev =
+    let first : Along k depth start all number (just_open depth) (numbered k start) (fresh k) all =
+    record { ready = ready; given = given; inside = omega (arith, length-append start.clauses.items (fresh k ∷ [])); on = λ r e y h. h } in
+    let pushed : record { clauses = v; sizes = start.sizes; total = start.total } ≡ numbered k start =
+    ap (λ xs. record { clauses = record { items = xs }; sizes = start.sizes; total = start.total }) (ev ∙ ap (λ y. start.clauses.items ++ y ∷ []) ex) in
+    rw (pushed, eo, ex) first
+
 -- one word more of the clause
 module _ (k : Kind) (depth : ℕ) (start : Draft) (all : List ℕ) (number : ℕ) (o : Open) (d : Draft) (x : ClauseRecord) (ws : List ℕ) (a : Along k depth start all number o d x ws) where
   pub along_none : length ws < 1 → Stops k (just_open depth) (numbered k start) (fresh k) all (record { reason = MisplacedWord; place = d.total })
@@ -202,13 +212,12 @@ module _ (k : Kind) (depth : ℕ) (start : Draft) (all : List ℕ) (number : ℕ
         on = λ r e y h. a.on r e y (at_except k o d x ws some a.ready w ew is r e y h);
       }
 
-      pub along_value : (v n : ℕ) → w ≡ Value v n → (x' : ClauseRecord) → x' ≡ with_value v n x → (last : ℕ) → last ≡ v * 256 + n
-          → Along k depth start all number (record { phase = o.phase; last = last; depth = o.depth }) d x' (tail ws)
-      along_value v n is x' ex last el = record {
+      pub along_value : (v n : ℕ) → w ≡ Value v n → (x' : ClauseRecord) → x' ≡ with_value v n x → Along k depth start all number (record { phase = o.phase; last = (v, n); depth = o.depth }) d x' (tail ws)
+      along_value v n is x' ex = record {
         ready = record { room = a.ready.room; deep = a.ready.deep; within = fewer; sized = a.ready.sized };
         given = a.given;
         inside = a.inside;
-        on = λ r e y h. a.on r e y (at_value k o d x ws some a.ready w ew v n is x' ex last el r e y h);
+        on = λ r e y h. a.on r e y (at_value k o d x ws some a.ready w ew v n is x' ex r e y h);
       }
 
       -- the record is written through the slice that is lent for it

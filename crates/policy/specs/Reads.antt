@@ -9,7 +9,7 @@ use Rattle.refusals.specs.declared.refusal.Reason.{Reason}
 use Rattle.refusals.specs.declared.refusal.Reason.TheVariants.{MisplacedWord, BadWord}
 use Rattle.refusals.specs.declared.refusal.Refusal.{Refusal}
 use Rattle.policy.specs.declared.word.Word.{Word}
-use Rattle.policy.specs.Words.{Frame, ended}
+use Rattle.policy.specs.Words.{Frame, position, ended}
 use Rattle.policy.specs.Walk.{walk, Slot, Records, recorded, fresh}
 use Rattle.policy.specs.Sized.{Sized}
 
@@ -21,7 +21,7 @@ pub record Ready (o : Open) (d : Draft) (ws : List ℕ) : Type 0 where
   pub sized : Sized d.sizes
 
 abbrev pub frame_of : Kind → Open → Frame
-frame_of k o = record { kind = k; phase = o.phase; last = o.last }
+frame_of k o = record { kind = k; phase = o.phase; last = position o.last.0 o.last.1 }
 
 abbrev pub slot : ℕ → ClauseRecord → Slot
 slot n x = record { number = n; filling = x }
@@ -60,7 +60,7 @@ Reads k o d x ws (Err r) e y = Stops k o d x ws r
 
 -- a clause whose head alone is read, inside `depth` others
 abbrev pub just_open : ℕ → Open
-just_open depth = record { phase = Listing; last = 0; depth = depth + 1 }
+just_open depth = record { phase = Listing; last = (0, 0); depth = depth + 1 }
 
 -- a clause inside `depth` others is given the next number and read from the word behind its head on, and its record is stored
 abbrev pub Behind : Kind → ℕ → Draft → List ℕ → Result ℕ Refusal → Draft → Type 0

@@ -19,6 +19,10 @@ use Rattle.policy.specs.Decode.{word_of}
 abbrev pub size_of : Sizes → ℕ → ℕ
 size_of z a = cond (a == 0) z.store (cond (a == 1) z.purpose (cond (a == 2) z.role z.types))
 
+-- the order in which values stand: by attribute, then by code
+abbrev pub position : ℕ → ℕ → ℕ
+position a c = a * 256 + c
+
 -- Spelling: a head, the values in rising order, EXCEPT and the exceptions where there are any, END.
 -- Here the list of a clause is as written: the empty set is an attribute left out.
 
@@ -134,7 +138,7 @@ head_fault opens heads k h =
 abbrev pub value_fault : Sizes → ℕ → ℕ → ℕ → Option Reason
 value_fault z last a c =
     cond (nat_le 4 a || (c == 0 || nat_le (size_of z a) c)) (Some BadValue)
-    (cond (nat_le (a * 256 + c) last) (Some NotRising) None)
+    (cond (nat_le (position a c) last) (Some NotRising) None)
 
 abbrev pub fault_in : Sizes → ℕ → ℕ → Kind → ℕ → Phase → Word → Option Reason
 fault_in z opens heads k last Listing (Head h) = Some MisplacedWord
@@ -182,7 +186,7 @@ ended (f ∷ fs) = in_phase Excepted f ∷ fs
 abbrev pub advanced : Reading → Word → Reading
 advanced r (Head k) = record { open_clauses = opened k ∷ r.open_clauses; heads = r.heads + 1 }
 advanced r (Value a c) = record {
-  open_clauses = elim r.open_clauses [ [] ↦ [] | f ∷ fs ↦ record { kind = f.kind; phase = f.phase; last = a * 256 + c } ∷ fs ];
+  open_clauses = elim r.open_clauses [ [] ↦ [] | f ∷ fs ↦ record { kind = f.kind; phase = f.phase; last = position a c } ∷ fs ];
   heads = r.heads;
 }
 advanced r Except = record { open_clauses = elim r.open_clauses [ [] ↦ [] | f ∷ fs ↦ in_phase Excepting f ∷ fs ]; heads = r.heads }

@@ -11,11 +11,11 @@ pub(crate) enum Phase {
     Excepted,
 }
 
-/// How far a clause is read: its phase, the last value as attribute * 256 + value, and how many clauses are open with it.
+/// How far a clause is read: its phase, the last value behind its attribute's number, and how many clauses are open with it.
 #[derive(Clone, Copy)]
 pub(crate) struct Open {
     pub(crate) phase: Phase,
-    pub(crate) last: u16,
+    pub(crate) last: (u8, u8),
     pub(crate) depth: usize,
 }
 

@@ -1,7 +1,7 @@
 //! Why a word cannot stand where it does.
 ghost use Rattle.std.specs.Prelude.{◌≡◌};
 ghost use Rattle.policy.specs.Decode.{word_of};
-ghost use Rattle.policy.specs.Words.{size_of, checked, fault_in, head_fault, value_fault};
+ghost use Rattle.policy.specs.Words.{size_of, position, checked, fault_in, head_fault, value_fault};
 
 use crate::clause::Kind;
 use crate::draft::{Open, Phase};
@@ -33,12 +33,12 @@ fn head_fault(top: Open, heads: usize, kind: Kind, head: Kind) -> Option<Reason>
 }
 
 // Why a value is declined.
-fn value_fault(sizes: Sizes, last: u16, attribute: u8, value: u8) -> Option<Reason>
-    ensures { result ≡ value_fault sizes last attribute value }
+fn value_fault(sizes: Sizes, last: (u8, u8), attribute: u8, value: u8) -> Option<Reason>
+    ensures { result ≡ value_fault sizes (position last.0 last.1) attribute value }
 {
     if attribute >= 4 || value == 0 || value >= size_of(sizes, attribute) {
         Some(Reason::BadValue)
-    } else if u16::from(attribute) * 256 + u16::from(value) <= last {
+    } else if (attribute, value) <= last {
         Some(Reason::NotRising)
     } else {
         None
@@ -47,7 +47,7 @@ fn value_fault(sizes: Sizes, last: u16, attribute: u8, value: u8) -> Option<Reas
 
 // Why a word is declined inside an open clause of this kind.
 fn fault_in(sizes: Sizes, heads: usize, kind: Kind, top: Open, word: Word) -> Option<Reason>
-    ensures { result ≡ fault_in sizes top.depth heads kind top.last top.phase word }
+    ensures { result ≡ fault_in sizes top.depth heads kind (position top.last.0 top.last.1) top.phase word }
 {
     match (word, top.phase) {
         (Word::Value(attribute, value), Phase::Listing) => value_fault(
@@ -69,7 +69,7 @@ pub(crate) fn admitted(
     top: Open,
     word: u32,
 ) -> Result<Word, Reason>
-    ensures { result ≡ checked (word_of word) (fault_in sizes top.depth heads kind top.last top.phase) }
+    ensures { result ≡ checked (word_of word) (fault_in sizes top.depth heads kind (position top.last.0 top.last.1) top.phase) }
 {
     let word = word_of(word).ok_or(Reason::BadWord)?;
     match fault_in(sizes, heads, kind, top, word) {

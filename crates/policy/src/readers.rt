@@ -19,7 +19,7 @@ impl Open {
     {
         Open {
             phase: Phase::Listing,
-            last: 0,
+            last: (0, 0),
             depth: depth + 1,
         }
     }
@@ -51,7 +51,7 @@ impl Draft {
                 }
                 Word::Value(attribute, value) => {
                     own.insert(attribute, value);
-                    top.last = u16::from(attribute) * 256 + u16::from(value);
+                    top.last = (attribute, value);
                 }
                 Word::Except => top.phase = Phase::Excepting,
                 Word::End => {

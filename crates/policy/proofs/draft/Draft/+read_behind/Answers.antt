@@ -2,8 +2,14 @@ use Rattle.std.proofs.Common.{◌-◌, ◌≤◌, length, ◌≡◌, Err, ap, �
 use Rattle.std.proofs.lemmas.Result.{err_from_is_err_and}
 use Rattle.std.proofs.lemmas.List.{take_rest}
 use Rattle.policy.specs.Walk.{closed}
-use Rattle.policy.proofs.Steps.{tail, seen_by, along_none, along_fault, along_except, along_value, along_end, along_head_stops, along_head}
+use Rattle.policy.proofs.Steps.{tail, along_start, seen_by, along_none, along_fault, along_except, along_value, along_end, along_head_stops, along_head}
 use Rattle.policy.proofs.draft.Draft.+read_behind.Goals as goal
+
+pub loop-left-init : goal.loop-left-init
+loop-left-init t c = record {
+  shorter = search rules;
+  along = along_start _ _ _ _ _ c.requires c.len-number.ensures.value _ c.inside-top.ensures _ c.opened-own.ensures _ c.push.ensures.items;
+}
 
 pub returns-in_err-word : goal.returns-in_err-word
 returns-in_err-word t c =
@@ -32,7 +38,7 @@ loop-left-preserved-in-Value t c =
     let some : 1 ≤ length c.loop-left.left.now = search rules in
     record {
       shorter = search rules;
-      along = along_value _ _ _ _ _ _ _ _ _ c.loop-left.invariant.along some c.in_ok-word.word (seen_by c.args.kind c.loop-left.top c.loop-left.self c.loop-left.left.now _ _ c.len.ensures.value c.admitted.ensures ∙ search rules) c.in-Value.attribute c.in-Value.value c.in-Value.is c.insert.new.self c.insert.ensures _ (search rules);
+      along = along_value _ _ _ _ _ _ _ _ _ c.loop-left.invariant.along some c.in_ok-word.word (seen_by c.args.kind c.loop-left.top c.loop-left.self c.loop-left.left.now _ _ c.len.ensures.value c.admitted.ensures ∙ search rules) c.in-Value.attribute c.in-Value.value c.in-Value.is c.insert.new.self c.insert.ensures;
     }
 
 pub loop-left-preserved : goal.loop-left-preserved
