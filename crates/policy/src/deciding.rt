@@ -10,6 +10,7 @@ use crate::vocabulary::Vocabulary;
 use lattice::bitset::{contains, remove, values};
 
 /// The answer of a clause, and the number of the clause that it rests on.
+// A clause decides whether the label passes or not, so an enum of the two answers would hold the number twice.
 #[derive(Clone, Copy, PartialEq, Eq, Debug)]
 pub struct Decision {
     pub passed: bool,

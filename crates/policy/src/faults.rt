@@ -8,6 +8,7 @@ use crate::draft::{Open, Phase};
 use crate::word::{Word, word_of};
 use lattice::{Reason, Sizes};
 
+// By number, not by `Attribute`: a word's number can be up to 15, and is refused as a value only where a value can stand.
 fn size_of(sizes: Sizes, attribute: u8) -> u8
     ensures { result ≡ size_of sizes attribute }
 {

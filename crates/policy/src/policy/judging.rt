@@ -11,6 +11,7 @@ use crate::label::Label;
 use crate::vocabulary::Vocabulary;
 
 /// What a policy says of a label: whether it passes, the clause that decides, and the data types that a refusal rests on.
+// The clause stands in both cases and the evidence of a passed label is the empty set, so an enum would be no plainer.
 #[derive(Clone, Copy, PartialEq, Eq, Debug)]
 pub struct Verdict {
     pub passed: bool,

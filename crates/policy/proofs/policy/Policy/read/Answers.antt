@@ -1,16 +1,11 @@
-use Rattle.std.proofs.Common.{◌≡◌, Some, sym, refl, subst}
+use Rattle.std.proofs.Common.{◌≡◌, Some, refl, subst}
 use Rattle.std.proofs.lemmas.Result.{err_from_is_err_and}
 use Rattle.lattice.specs.Schemes.{Scheme, scheme_sizes}
 use Rattle.lattice.specs.declared.sizes.Sizes.{Sizes}
-use Rattle.policy.specs.Sized.{Sized}
 use Rattle.policy.specs.Words.{words_fault}
 use Rattle.policy.proofs.Taken.{refused, stands_nested, stands_some, taken}
 use Rattle.policy.proofs.Whole.{sized}
 use Rattle.policy.proofs.policy.Policy.read.Goals as goal
-
-pub read-requires : goal.read-requires
-read-requires g c =
-    subst Sized (sym c.sizes.ensures) (sized (g.V.Vocabulary.orders c.args.scheme.now) (g.met.V.Vocabulary.lawful c.args.scheme.now))
 
 pub invariant_of-self : goal.invariant_of-self
 invariant_of-self g c =
