@@ -1,5 +1,5 @@
 -- The words of a policy are read without a fault, and make that policy's clause.
-use Rattle.std.proofs.Common.{◌≡◌, ℕ, zero, suc, ◌+◌, ◌-◌, ◌*◌, ◌/◌, ◌%◌, ◌^◌, ◌<◌, ◌≤◌, Bool, true, false, cond, ◌||◌, eqb, leb, ◌⊎◌, List, [], ◌∷◌, ◌++◌, length, Some, None, Ok, Err, sym, refl, ap, ◌∙◌, subst, inl, inr, append_assoc, append-nil, mod-eq_of_lt, arith, lit<}
+use Rattle.std.proofs.Common.{◌≡◌, ℕ, zero, suc, ◌+◌, ◌-◌, ◌*◌, ◌/◌, ◌%◌, ◌^◌, ◌<◌, ◌≤◌, Bool, true, false, cond, ◌||◌, eqb, leb, ◌⊎◌, List, [], ◌∷◌, ◌++◌, length, Some, None, Option, Ok, Err, sym, refl, ap, ◌∙◌, subst, inl, inr, append_assoc, append-nil, mod-eq_of_lt, arith, lit<}
 use native.Mathlib.Nat.{pow-le-pow_right}
 use lib.Bits.{bit_or}
 use Rattle.std.proofs.lemmas.Bool.{eqb-true, eq-eqb, ne_eqb, ltb-true, lt-leb, and_parts, or_from, cases_lt}
@@ -11,7 +11,7 @@ use Rattle.policy.specs.declared.draft.Phase.{Phase}
 use Rattle.policy.specs.declared.draft.Phase.TheVariants.{Listing, Excepting, Excepted}
 use Rattle.refusals.specs.declared.refusal.Reason.TheVariants.{MisplacedWord, BadValue, NotRising, SameKind, TooNested}
 use Rattle.policy.specs.declared.word.Word.{Word}
-use Rattle.policy.specs.declared.word.Word.TheVariants.{Head, Value, Except, End, NoWord}
+use Rattle.policy.specs.declared.word.Word.TheVariants.{Head, Value, Except, End}
 use Rattle.lattice.specs.Sets.{has}
 use Rattle.policy.specs.Clauses.{Clause, Clauses, allow, deny, none, more, clause_count, clauses_count}
 use Rattle.policy.specs.Decode.{word_of}
@@ -21,19 +21,20 @@ use Rattle.policy.specs.Records.{clause_of}
 use Rattle.policy.proofs.Values.{has_high, bit_on, low_on, low_off}
 use Rattle.policy.proofs.Labels.{ranges}
 use Rattle.policy.proofs.Trees.{count_pos}
-use Rattle.policy.proofs.Grown.{Node, snoc, shut, grown, walk_on}
+use Rattle.policy.proofs.Grown.{Node, snoc, shut, grown, checked_on, walk_on}
 use Rattle.policy.proofs.Sound.{HEAD, other, others, Waits}
 
 -- the word of a value says that value
-pub decode_value : (a n : ℕ) → a < 4 → n < 64 → word_of (value_word a n) ≡ Value a n
+pub decode_value : (a n : ℕ) → a < 4 → n < 64 → word_of (value_word a n) ≡ Some (Value a n)
 decode_value a n ha hn =
     let w = value_word a n in
     let q : w / 2 ^ 28 ≡ 3 = omega arith in
     let m : (w / 2 ^ 8) % 2 ^ 16 ≡ 0 = omega arith in
     let ea : (w / 2 ^ 24) % 2 ^ 4 ≡ a = omega arith in
     let en : w % 2 ^ 8 ≡ n = omega arith in
-    let V : ℕ → ℕ → ℕ → Word = λ q m _. cond (eqb q 1) (cond (eqb (w % 2 ^ 28) 0) (Head Allow) NoWord) (cond (eqb q 2) (cond (eqb (w % 2 ^ 28) 0) (Head Deny) NoWord) (cond (eqb q 3) (cond (eqb m 0) (Value ((w / 2 ^ 24) % 2 ^ 4) (w % 2 ^ 8)) NoWord) (cond (eqb q 4) (cond (eqb (w % 2 ^ 28) 0) Except NoWord) (cond (eqb q 5) (cond (eqb (w % 2 ^ 28) 0) End NoWord) NoWord)))) in
-    ap (λ q. V q ((w / 2 ^ 8) % 2 ^ 16) 0) q ∙ ap (λ m. V 3 m 0) m ∙ ap (λ b. Value b (w % 2 ^ 8)) ea ∙ ap (Value a) en
+    let P : Word → Option Word = λ x. cond (eqb (w % 2 ^ 28) 0) (Some x) None in
+    let V : ℕ → ℕ → Option Word = λ q m. cond (eqb q 1) (P (Head Allow)) (cond (eqb q 2) (P (Head Deny)) (cond (eqb q 3) (cond (eqb m 0) (Some (Value ((w / 2 ^ 24) % 2 ^ 4) (w % 2 ^ 8))) None) (cond (eqb q 4) (P Except) (cond (eqb q 5) (P End) None)))) in
+    ap (λ q. V q ((w / 2 ^ 8) % 2 ^ 16)) q ∙ ap (λ m. V 3 m) m ∙ ap (λ b. Some (Value b (w % 2 ^ 8))) ea ∙ ap (λ n. Some (Value a n)) en
 
 -- the label with v as its set of attribute a
 abbrev pub put : ℕ → ℕ → Label → Label
@@ -82,9 +83,8 @@ module _ (z : Sizes) (small : Small z) where
   then : (r s t : Reading) (ys xs vs : List Node) (ws us ts : List ℕ) → Leads r ys ws s xs us → Leads s xs us t vs ts → Leads r ys ws t vs ts
   then r s t ys xs vs ws us ts p q i = let a = p i in let b = q a.0 in (b.0, a.1 ∙ b.1)
 
-  one : (r : Reading) (ys : List Node) (w : ℕ) (ws : List ℕ) (v : Word) → word_of w ≡ v → fault z r v ≡ None → Leads r ys (w ∷ ws) (advanced r v) (grown r v ys) ws
-  one r ys w ws v e f i =
-      (i + 1, walk_on grown z r ys i w ws (ap (fault z r) e ∙ f) ∙ ap (λ x. walk grown z (advanced r x) (grown r x ys) (i + 1) ws) e)
+  one : (r : Reading) (ys : List Node) (w : ℕ) (ws : List ℕ) (v : Word) → word_of w ≡ Some v → fault z r v ≡ None → Leads r ys (w ∷ ws) (advanced r v) (grown r v ys) ws
+  one r ys w ws v e f i = (i + 1, walk_on grown z r ys i w ws v (checked_on (word_of w) (fault z r) v e f))
 
   size_small : (a : ℕ) → size_of z a ≤ 64
   size_small a = cond_le (eqb a 0) z.store _ small.0.0 (cond_le (eqb a 1) z.purpose _ small.0.1 (cond_le (eqb a 2) z.role z.types small.1.0 small.1.1))
@@ -251,7 +251,7 @@ module _ (z : Sizes) (small : Small z) where
   Following es = (k : Kind) (fs : List Frame) (heads t : ℕ) (l : Label) (xs : Clauses) (ys : List Node) (rest : List ℕ) → suc (length fs) + depths es ≤ 16 → heads + clauses_count es ≤ 256 → others z k es ≡ true
       → Leads (reads (top k Excepted t ∷ fs) heads) (node l xs ∷ ys) (spelled_rest es ++ rest) (reads (top k Excepted t ∷ fs) (heads + clauses_count es)) (node l (join xs es) ∷ ys) rest
 
-  head_word : (k : Kind) → word_of (HEAD k) ≡ Head k
+  head_word : (k : Kind) → word_of (HEAD k) ≡ Some (Head k)
   head_word Allow = refl
   head_word Deny = refl
 

@@ -1,117 +1,115 @@
 -- The first clause of a policy's words, and what comes after it.
-use Rattle.std.proofs.Common.{◌≡◌, ℕ, ◌+◌, ◌-◌, ◌<◌, ◌≤◌, cond, List, [], ◌∷◌, length, get_or, drop, Some, None, Ok, Err, sym, refl, ap, ◌∙◌, subst, arith, length-drop}
+use Rattle.std.proofs.Common.{◌≡◌, ℕ, ◌+◌, ◌-◌, ◌<◌, ◌≤◌, cond, List, [], ◌∷◌, length, get_or, drop, Some, None, Option, Ok, Err, Result, sym, refl, ap, ◌∙◌, subst, arith, length-drop, length-append, length-set}
 use Rattle.std.proofs.lemmas.List.{drop-drop, drop_all, drop_more}
-use Rattle.std.proofs.lemmas.Bool.{eq-eqb, ne_eqb, or_left, or_right, lt-ltb}
+use Rattle.std.proofs.lemmas.Bool.{eq-eqb, ne_eqb}
+use Rattle.arrayvec.specs.ArrayVec.{ArrayVec}
 use Rattle.lattice.specs.declared.sizes.Sizes.{Sizes}
 use Rattle.policy.specs.declared.clause.Kind.{Kind}
 use Rattle.policy.specs.declared.draft.Phase.TheVariants.{Listing}
-use Rattle.policy.specs.declared.draft.Open.{Open}
 use Rattle.policy.specs.declared.draft.Draft.{Draft}
 use Rattle.policy.specs.declared.clause.ClauseRecord.{ClauseRecord}
 use Rattle.refusals.specs.declared.refusal.Reason.{Reason}
-use Rattle.refusals.specs.declared.refusal.Reason.TheVariants.{MisplacedWord, WordCount}
+use Rattle.refusals.specs.declared.refusal.Reason.TheVariants.{MisplacedWord}
 use Rattle.refusals.specs.declared.refusal.Refusal.{Refusal}
 use Rattle.policy.specs.declared.word.Word.{Word}
-use Rattle.policy.specs.declared.word.Word.TheVariants.{Head, Value, Except, End, NoWord}
+use Rattle.policy.specs.declared.word.Word.TheVariants.{Head, Value, Except, End}
 use Rattle.policy.specs.Clauses.{Clause, none, more, clause_count}
 use Rattle.policy.specs.Decode.{word_of}
-use Rattle.policy.specs.Words.{Frame, Reading, fault, fault_outside, fault_from, words_fault, nothing_read, Small, Written, spelled, meaning, meanings}
+use Rattle.policy.specs.Words.{Reading, checked, fault, fault_outside, fault_from, advanced, opened, words_fault, nothing_read, Small, meaning}
 use Rattle.policy.specs.Walk.{walk, Slot, Records, recorded, fresh, empty}
 use Rattle.policy.specs.Laid.{LaidClause}
 use Rattle.policy.specs.Sized.{Sized}
-use Rattle.policy.specs.Reads.{slot, goes, stored, numbered, Closes, Stops, Begins, Firsts, stray_reason}
+use Rattle.policy.specs.Reads.{slot, goes, stored, numbered, just_open, Closes, Stops, Behind, Begins, Begun, Firsts, stray_reason}
 use Rattle.policy.specs.Stands.{Drafted}
 use Rattle.policy.proofs.Steps.{tail, tail_is}
-use Rattle.policy.proofs.Grown.{Node, agrees, walk_on, walk_stop}
+use Rattle.policy.proofs.Grown.{Node, agrees, checked_on, walk_on, walk_stop}
 use Rattle.policy.proofs.Recorded.{Sim, simulates}
 use Rattle.policy.proofs.Complete.{node}
 use Rattle.policy.proofs.Exact.{clean, stopped, spelt, within, written_of}
 
 -- a word outside every clause
-outside_stop : (d : Draft) (ws : List ℕ) → 1 ≤ length ws → (x : Reason) → fault_outside d.count (word_of (get_or ws 0 0)) ≡ Some x → goes d [] [] ws ≡ Err (record { reason = x; place = d.total - length ws })
+outside_stop : (d : Draft) (ws : List ℕ) → 1 ≤ length ws → (x : Reason) → checked (word_of (get_or ws 0 0)) (fault_outside (length d.clauses.items)) ≡ Err x → goes d [] [] ws ≡ Err (record { reason = x; place = d.total - length ws })
 outside_stop d [] h x e = absurd (omega arith)
 outside_stop d (w ∷ ws) h x e =
-    walk_stop (recorded d.sizes) d.sizes (record { open_clauses = []; heads = d.count }) (record { opens = []; clauses = d.clauses; count = d.count }) (d.total - length (w ∷ ws)) w ws x e
+    walk_stop (recorded d.sizes) d.sizes (record { open_clauses = []; heads = (length d.clauses.items) }) (record { opens = []; clauses = d.clauses.items }) (d.total - length (w ∷ ws)) w ws x e
 
-outside_head : (d : Draft) (ws : List ℕ) → 1 ≤ length ws → length ws ≤ d.total → d.count ≡ 0 → (k : Kind) → word_of (get_or ws 0 0) ≡ Head k
-    → goes d [] [] ws ≡ goes (numbered d) (record { kind = k; phase = Listing; last = 0 } ∷ []) (slot d.count (fresh k) ∷ []) (drop 1 ws)
+outside_head : (d : Draft) (ws : List ℕ) → 1 ≤ length ws → length ws ≤ d.total → d.clauses.items ≡ [] → (k : Kind) → word_of (get_or ws 0 0) ≡ Some (Head k)
+    → goes d [] [] ws ≡ goes (numbered k d) (record { kind = k; phase = Listing; last = 0 } ∷ []) (slot (length d.clauses.items) (fresh k) ∷ []) (drop 1 ws)
 outside_head d [] h t c k e = absurd (omega arith)
 outside_head d (w ∷ ws) h t c k e =
-    let r : Reading = record { open_clauses = []; heads = d.count } in
-    let x : Records = record { opens = []; clauses = d.clauses; count = d.count } in
-    let none_here : fault d.sizes r (Head k) ≡ None = ap (λ b. cond b None (Some MisplacedWord)) (eq-eqb d.count 0 c) in
+    let r : Reading = record { open_clauses = []; heads = (length d.clauses.items) } in
+    let x : Records = record { opens = []; clauses = d.clauses.items } in
+    let none_here : fault d.sizes r (Head k) ≡ None = ap (λ b. cond b None (Some MisplacedWord)) (eq-eqb (length d.clauses.items) 0 (ap length c)) in
     let p : d.total - length (w ∷ ws) + 1 ≡ d.total - length ws = omega arith in
-    walk_on (recorded d.sizes) d.sizes r x (d.total - length (w ∷ ws)) w ws (ap (fault d.sizes r) e ∙ none_here)
-    ∙ ap (λ v. walk (recorded d.sizes) d.sizes (Rattle.policy.specs.Words.advanced r v) (recorded d.sizes r v x) (d.total - length (w ∷ ws) + 1) ws) e
-    ∙ ap (λ i. walk (recorded d.sizes) d.sizes (Rattle.policy.specs.Words.advanced r (Head k)) (recorded d.sizes r (Head k) x) i ws) p
+    walk_on (recorded d.sizes) d.sizes r x (d.total - length (w ∷ ws)) w ws (Head k) (checked_on (word_of w) (fault d.sizes r) (Head k) e none_here)
+    ∙ ap (λ i. walk (recorded d.sizes) d.sizes (advanced r (Head k)) (recorded d.sizes r (Head k) x) i ws) p
+    ∙ ap (λ h. walk (recorded d.sizes) d.sizes (record { open_clauses = opened k ∷ []; heads = h }) (recorded d.sizes r (Head k) x) (d.total - length ws) ws)
+    (sym (length-append d.clauses.items (fresh k ∷ [])))
 
-module _ (d : Draft) (ws : List ℕ) (some : 1 ≤ length ws) (count : d.count ≡ 0) (total : d.total ≡ length ws) (w : Word) (ew : w ≡ word_of (get_or ws 0 0)) where
-  pub begun_stray : (x : Reason) → x ≡ stray_reason w → ((k : Kind) → w ≡ Head k → ⊥) → goes d [] [] ws ≡ Err (record { reason = x; place = 0 })
+module _ (d : Draft) (ws : List ℕ) (some : 1 ≤ length ws) (count : d.clauses.items ≡ []) (total : d.total ≡ length ws) (w : Option Word) (ew : w ≡ word_of (get_or ws 0 0)) where
+  pub begun_stray : (x : Reason) → x ≡ stray_reason w → ((k : Kind) → w ≡ Some (Head k) → ⊥) → goes d [] [] ws ≡ Err (record { reason = x; place = 0 })
   begun_stray x ex no_head =
-      let f : fault_outside d.count w ≡ Some x = by w no_head ex in
+      let f : checked w (fault_outside (length d.clauses.items)) ≡ Err x = by w no_head ex in
       let p : d.total - length ws ≡ 0 = omega arith in
-      outside_stop d ws some x (ap (fault_outside d.count) (sym ew) ∙ f) ∙ ap (λ i. Err (record { reason = x; place = i })) p
+      outside_stop d ws some x (ap (λ o. checked o (fault_outside (length d.clauses.items))) (sym ew) ∙ f) ∙ ap (λ i. Err (record { reason = x; place = i })) p
     where
-      by : (v : Word) → ((k : Kind) → v ≡ Head k → ⊥) → x ≡ stray_reason v → fault_outside d.count v ≡ Some x
-      by (Head k) n e = absurd (n k refl)
-      by (Value a c) n e = ap Some (sym e)
-      by Except n e = ap Some (sym e)
-      by End n e = ap Some (sym e)
-      by NoWord n e = ap Some (sym e)
+      by : (v : Option Word) → ((k : Kind) → v ≡ Some (Head k) → ⊥) → x ≡ stray_reason v → checked v (fault_outside (length d.clauses.items)) ≡ Err x
+      by (Some (Head k)) n e = absurd (n k refl)
+      by (Some (Value a c)) n e = ap Err (sym e)
+      by (Some Except) n e = ap Err (sym e)
+      by (Some End) n e = ap Err (sym e)
+      by None n e = ap Err (sym e)
 
-  abbrev first_open : Open
-  first_open = record { phase = Listing; last = 0; depth = 0 + 1 }
-
-  module _ (k : Kind) (is : w ≡ Head k) (i : Open) (ei : i ≡ first_open) (f : ClauseRecord) (ef : f ≡ fresh k) where
-    pub begun_on : (left : ℕ) (e : Draft) (y : ClauseRecord) → Closes k i (numbered d) f (tail ws) left e y → Begins d ws left (stored e d.count y)
+  module _ (k : Kind) (is : w ≡ Some (Head k)) where
+    begun_on : (left : ℕ) (e : Draft) (y : ClauseRecord) → Closes k (just_open 0) (numbered k d) (fresh k) (tail ws) left e y → Begins d ws left (stored e (length d.clauses.items) y)
     begun_on left e y h =
-        let h₁ : Closes k first_open (numbered d) f (tail ws) left e y = subst (λ q. Closes k q (numbered d) f (tail ws) left e y) ei h in
-        let h₂ : Closes k first_open (numbered d) (fresh k) (tail ws) left e y = subst (λ q. Closes k first_open (numbered d) q (tail ws) left e y) ef h₁ in
-        let c : Closes k first_open (numbered d) (fresh k) (drop 1 ws) left e y = subst (λ q. Closes k first_open (numbered d) (fresh k) q left e y) (tail_is ws) h₂ in
+        let c : Closes k (just_open 0) (numbered k d) (fresh k) (drop 1 ws) left e y = subst (λ q. Closes k (just_open 0) (numbered k d) (fresh k) q left e y) (tail_is ws) h in
         let step = outside_head d ws some (omega arith) count k (sym ew ∙ is) in
         let n : length (drop 1 ws) ≡ length ws - 1 = length-drop 1 ws in
         let low : left < length (drop 1 ws) = c.shorter in
         let m : 1 + (length (drop 1 ws) - left) ≡ length ws - left = omega arith in
         record {
           shorter = omega arith;
-          some = (let g : d.count + 1 ≤ e.count = c.grows in omega arith);
+          some = omega (arith, c.grows, length-append d.clauses.items (fresh k ∷ []), length-set e.clauses.items (length d.clauses.items) y);
           sizes = c.sizes;
           total = c.total;
-          on = step ∙ c.on [] [] d.count refl ∙ ap (λ u. goes (stored e d.count y) [] [] u) (drop-drop (length (drop 1 ws) - left) 1 ws ∙ ap (λ j. drop j ws) m);
+          on = step ∙ c.on [] [] (length d.clauses.items) refl ∙ ap (λ u. goes (stored e (length d.clauses.items) y) [] [] u) (drop-drop (length (drop 1 ws) - left) 1 ws ∙ ap (λ j. drop j ws) m);
         }
 
-    pub begun_stops : (r : Refusal) → Stops k i (numbered d) f (tail ws) r → goes d [] [] ws ≡ Err r
+    begun_stops : (r : Refusal) → Stops k (just_open 0) (numbered k d) (fresh k) (tail ws) r → goes d [] [] ws ≡ Err r
     begun_stops r h =
-        let h₁ : Stops k first_open (numbered d) f (tail ws) r = subst (λ q. Stops k q (numbered d) f (tail ws) r) ei h in
-        let h₂ : Stops k first_open (numbered d) (fresh k) (tail ws) r = subst (λ q. Stops k first_open (numbered d) q (tail ws) r) ef h₁ in
-        let c : Stops k first_open (numbered d) (fresh k) (drop 1 ws) r = subst (λ q. Stops k first_open (numbered d) (fresh k) q r) (tail_is ws) h₂ in
-        outside_head d ws some (omega arith) count k (sym ew ∙ is) ∙ c [] [] d.count refl
+        let c : Stops k (just_open 0) (numbered k d) (fresh k) (drop 1 ws) r = subst (λ q. Stops k (just_open 0) (numbered k d) (fresh k) q r) (tail_is ws) h in
+        outside_head d ws some (omega arith) count k (sym ew ∙ is) ∙ c [] [] (length d.clauses.items) refl
 
-pub begun_none : (d : Draft) (ws : List ℕ) → length ws < 1 → d.count ≡ 0 → d.total ≡ length ws → goes d [] [] ws ≡ Err (record { reason = MisplacedWord; place = 0 })
+    pub begun_behind : (r : Result ℕ Refusal) (e : Draft) → Behind k 0 d (tail ws) r e → Begun d ws r e
+    begun_behind (Ok left) e (g, (y, (c, q))) = subst (λ f. Begins d ws left f) (sym q) (begun_on left g y c)
+    begun_behind (Err r) e h = begun_stops r h
+
+pub begun_none : (d : Draft) (ws : List ℕ) → length ws < 1 → d.clauses.items ≡ [] → d.total ≡ length ws → goes d [] [] ws ≡ Err (record { reason = MisplacedWord; place = 0 })
 unfolding walk
 begun_none d [] h c t =
     let p : d.total - 0 ≡ 0 = omega arith in
-    ap (λ b. cond b (Err (record { reason = MisplacedWord; place = d.total - 0 })) (Ok (record { opens = []; clauses = d.clauses; count = d.count }))) (eq-eqb d.count 0 c) ∙ ap (λ i. Err (record { reason = MisplacedWord; place = i })) p
+    ap (λ b. cond b (Err (record { reason = MisplacedWord; place = d.total - 0 })) (Ok (record { opens = []; clauses = d.clauses.items }))) (eq-eqb (length d.clauses.items) 0 (ap length c)) ∙ ap (λ i. Err (record { reason = MisplacedWord; place = i })) p
 begun_none d (w ∷ ws) h c t = absurd (omega arith)
 
 -- after the first clause
-goes_end : (e : Draft) → 1 ≤ e.count → goes e [] [] [] ≡ Ok (record { opens = []; clauses = e.clauses; count = e.count })
+goes_end : (e : Draft) → 1 ≤ (length e.clauses.items) → goes e [] [] [] ≡ Ok (record { opens = []; clauses = e.clauses.items })
 unfolding walk
-goes_end e h = ap (λ b. cond b (Err (record { reason = MisplacedWord; place = e.total - 0 })) (Ok (record { opens = []; clauses = e.clauses; count = e.count }))) (ne_eqb e.count 0 (λ q. omega arith))
+goes_end e h = ap (λ b. cond b (Err (record { reason = MisplacedWord; place = e.total - 0 })) (Ok (record { opens = []; clauses = e.clauses.items }))) (ne_eqb (length e.clauses.items) 0 (λ q. omega arith))
 
 pub first_whole : (d e : Draft) (ws : List ℕ) (left : ℕ) → Begins d ws left e → left ≡ 0 → Firsts d ws (Ok tt) e
 first_whole d e ws left b z =
     let n : drop (length ws - left) ws ≡ [] = drop_all (length ws - left) ws (omega arith) in
     (b.on ∙ ap (λ u. goes e [] [] u) n ∙ goes_end e b.some, b.sizes)
 
-stray_fault : (n : ℕ) → 1 ≤ n → (w : Word) → fault_outside n w ≡ Some (stray_reason w)
-stray_fault n h (Head k) = ap (λ b. cond b None (Some MisplacedWord)) (ne_eqb n 0 (λ e. omega arith))
-stray_fault n h (Value a c) = refl
-stray_fault n h Except = refl
-stray_fault n h End = refl
-stray_fault n h NoWord = refl
+stray_fault : (n : ℕ) → 1 ≤ n → (w : Option Word) → checked w (fault_outside n) ≡ Err (stray_reason w)
+stray_fault n h (Some (Head k)) = ap (λ b. elim (cond b None (Some MisplacedWord)) [ Some y ↦ Err y | None ↦ Ok (Head k) ]) (ne_eqb n 0 (λ e. omega arith))
+stray_fault n h (Some (Value a c)) = refl
+stray_fault n h (Some Except) = refl
+stray_fault n h (Some End) = refl
+stray_fault n h None = refl
 
-pub first_stray : (d e : Draft) (ws : List ℕ) (left : ℕ) → d.total ≡ length ws → Begins d ws left e → (left ≡ 0 → ⊥) → (w : Word) → w ≡ word_of (get_or ws (length ws - left) 0) → (x : Reason) → x ≡ stray_reason w
+pub first_stray : (d e : Draft) (ws : List ℕ) (left : ℕ) → d.total ≡ length ws → Begins d ws left e → (left ≡ 0 → ⊥) → (w : Option Word) → w ≡ word_of (get_or ws (length ws - left) 0) → (x : Reason) → x ≡ stray_reason w
     → goes d [] [] ws ≡ Err (record { reason = x; place = length ws - left })
 first_stray d e ws left t b nz w ew x ex =
     let low : left < length ws = b.shorter in
@@ -120,8 +118,8 @@ first_stray d e ws left t b nz w ew x ex =
     let more_words : drop i ws ≡ get_or ws i 0 ∷ drop (i + 1) ws = drop_more ws i 0 lt in
     let n : length (drop i ws) ≡ left = length-drop i ws ∙ omega arith in
     let head_is : get_or (drop i ws) 0 0 ≡ get_or ws i 0 = ap (λ u. get_or u 0 0) more_words in
-    let f : fault_outside e.count (word_of (get_or (drop i ws) 0 0)) ≡ Some x =
-    ap (λ v. fault_outside e.count (word_of v)) head_is ∙ ap (fault_outside e.count) (sym ew) ∙ stray_fault e.count b.some w ∙ ap Some (sym ex) in
+    let f : checked (word_of (get_or (drop i ws) 0 0)) (fault_outside (length e.clauses.items)) ≡ Err x =
+    ap (λ v. checked (word_of v) (fault_outside (length e.clauses.items))) head_is ∙ ap (λ o. checked o (fault_outside (length e.clauses.items))) (sym ew) ∙ stray_fault (length e.clauses.items) b.some w ∙ ap Err (sym ex) in
     let et = b.total in
     let p : e.total - length (drop i ws) ≡ i = omega arith in
     b.on ∙ outside_stop e (drop i ws) (omega arith) x f ∙ ap (λ j. Err (record { reason = x; place = j })) p
@@ -130,11 +128,17 @@ first_stray d e ws left t b nz w ew x ex =
 pub sized_small : (z : Sizes) → Sized z → Small z
 sized_small z s = ((s.store_high, s.purpose_high), (s.role_high, s.types_high))
 
-abbrev blank : Sizes → List ClauseRecord → List ℕ → Draft
-blank z rs ws = record { clauses = rs; count = 0; sizes = z; total = length ws }
+abbrev blank : Sizes → ArrayVec ClauseRecord → List ℕ → Draft
+blank z v ws = record { clauses = v; sizes = z; total = length ws }
 
-from_zero : (z : Sizes) (rs : List ClauseRecord) (ws : List ℕ) → goes (blank z rs ws) [] [] ws ≡ walk (recorded z) z nothing_read (record { opens = []; clauses = rs; count = 0 }) 0 ws
-from_zero z rs ws = let p : length ws - length ws ≡ 0 = omega arith in ap (λ i. walk (recorded z) z nothing_read (record { opens = []; clauses = rs; count = 0 }) i ws) p
+abbrev unread : Records
+unread = record { opens = []; clauses = [] }
+
+from_zero : (z : Sizes) (v : ArrayVec ClauseRecord) → v.items ≡ [] → (ws : List ℕ) → goes (blank z v ws) [] [] ws ≡ walk (recorded z) z nothing_read unread 0 ws
+from_zero z v e ws =
+    let p : length ws - length ws ≡ 0 = omega arith in
+    ap (λ i. walk (recorded z) z (record { open_clauses = []; heads = length v.items }) (record { opens = []; clauses = v.items }) i ws) p
+    ∙ ap (λ xs. walk (recorded z) z (record { open_clauses = []; heads = length xs }) (record { opens = []; clauses = xs }) 0 ws) e
 
 laid_from : (z : Sizes) (out : List Node) (c : Clause) (l : Rattle.policy.specs.declared.label.Label.Label) (ss : List Slot) (n : ℕ) (rs : List ClauseRecord) → out ≡ record { list = l; exceptions = more c none } ∷ [] → Sim z [] out ss n rs
     → LaidClause rs 0 (meaning z c) × (n ≡ clause_count c)
@@ -144,28 +148,20 @@ laid_from z out c l ss n rs e s = by ss (subst (λ o. Sim z [] o ss n rs) e s)
     by [] h = (h.0.0, let q = h.1 in omega arith)
     by (k ∷ ks) h = absurd h
 
-pub drafted : (z : Sizes) → Sized z → (rs : List ClauseRecord) → length rs ≡ 256 → (ws : List ℕ) → 1 ≤ length ws → length ws ≤ 4096 → (e : Draft) → Firsts (blank z rs ws) ws (Ok tt) e → Drafted z ws (Ok e)
-drafted z sized rs len ws lo hi e f =
-    let x₀ : Records = record { opens = []; clauses = rs; count = 0 } in
-    let x : Records = record { opens = []; clauses = e.clauses; count = e.count } in
-    let w : walk (recorded z) z nothing_read x₀ 0 ws ≡ Ok x = sym (from_zero z rs ws) ∙ f.0 in
-    let no_fault : fault_from z nothing_read 0 ws ≡ None = clean (fault_from z nothing_read 0 ws) (walk (recorded z) z nothing_read x₀ 0 ws) x (agrees (recorded z) z ws nothing_read x₀ 0) w in
+pub drafted : (z : Sizes) → Sized z → (v : ArrayVec ClauseRecord) → v.items ≡ [] → (ws : List ℕ) → 1 ≤ length ws → length ws ≤ 4096 → (e : Draft) → Firsts (blank z v ws) ws (Ok tt) e → Drafted z ws (Ok e)
+drafted z sized v ev ws lo hi e f =
+    let x : Records = record { opens = []; clauses = e.clauses.items } in
+    let w : walk (recorded z) z nothing_read unread 0 ws ≡ Ok x = sym (from_zero z v ev ws) ∙ f.0 in
+    let no_fault : fault_from z nothing_read 0 ws ≡ None = clean (fault_from z nothing_read 0 ws) (walk (recorded z) z nothing_read unread 0 ws) x (agrees (recorded z) z ws nothing_read unread 0) w in
     let s = spelt z (sized_small z sized) ws no_fault in
-    let sim = simulates z ws [] (node empty none ∷ []) 0 x₀ 0 s.0 x len (omega arith) (tt, refl) refl s.1 w in
+    let sim = simulates z ws [] (node empty none ∷ []) 0 unread 0 s.0 x (tt, refl) refl s.1 w in
     let t = s.2 in
-    let both = laid_from z s.0 t.clause t.outside [] e.count e.clauses t.is sim in (
+    let both = laid_from z s.0 t.clause t.outside [] (length e.clauses.items) e.clauses.items t.is sim in (
       record { clause = t.clause; written = written_of z ws s.0 t hi; words = t.words; laid = both.0; count = both.1 },
       within z ws lo hi ∙ no_fault,
       f.1,
     )
 
-pub draft_stops : (z : Sizes) (rs : List ClauseRecord) (ws : List ℕ) → 1 ≤ length ws → length ws ≤ 4096 → (x : Refusal) → goes (blank z rs ws) [] [] ws ≡ Err x → words_fault z ws ≡ Some x
-draft_stops z rs ws lo hi x e =
-    let x₀ : Records = record { opens = []; clauses = rs; count = 0 } in
-    within z ws lo hi ∙ stopped (fault_from z nothing_read 0 ws) (walk (recorded z) z nothing_read x₀ 0 ws) x (agrees (recorded z) z ws nothing_read x₀ 0) (sym (from_zero z rs ws) ∙ e)
-
-pub none_given : (z : Sizes) (ws : List ℕ) → length ws ≡ 0 → words_fault z ws ≡ Some (record { reason = WordCount; place = 0 })
-none_given z ws e = ap (λ b. cond b (Some (record { reason = WordCount; place = 0 })) (fault_from z nothing_read 0 ws)) (or_left _ _ (eq-eqb (length ws) 0 e))
-
-pub too_many : (z : Sizes) (ws : List ℕ) → 4096 < length ws → words_fault z ws ≡ Some (record { reason = WordCount; place = 0 })
-too_many z ws h = ap (λ b. cond b (Some (record { reason = WordCount; place = 0 })) (fault_from z nothing_read 0 ws)) (or_right _ _ (lt-ltb 4096 (length ws) h))
+pub draft_stops : (z : Sizes) (v : ArrayVec ClauseRecord) → v.items ≡ [] → (ws : List ℕ) → 1 ≤ length ws → length ws ≤ 4096 → (x : Refusal) → goes (blank z v ws) [] [] ws ≡ Err x → words_fault z ws ≡ Some x
+draft_stops z v ev ws lo hi x e =
+    within z ws lo hi ∙ stopped (fault_from z nothing_read 0 ws) (walk (recorded z) z nothing_read unread 0 ws) x (agrees (recorded z) z ws nothing_read unread 0) (sym (from_zero z v ev ws) ∙ e)

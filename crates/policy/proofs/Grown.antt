@@ -1,5 +1,5 @@
 -- The clause that words spell, made word by word.
-use Rattle.std.proofs.Common.{◌≡◌, ℕ, ◌+◌, Bool, true, false, cond, eqb, List, [], ◌∷◌, Some, None, Ok, Err, Option, Result, refl, ap}
+use Rattle.std.proofs.Common.{◌≡◌, ℕ, ◌+◌, Bool, true, false, cond, eqb, List, [], ◌∷◌, Some, None, Ok, Err, Option, Result, sym, refl, ap, ◌∙◌}
 use Rattle.policy.specs.declared.label.Label.{Label}
 use Rattle.lattice.specs.declared.sizes.Sizes.{Sizes}
 use Rattle.policy.specs.declared.clause.Kind.{Kind}
@@ -7,10 +7,9 @@ use Rattle.refusals.specs.declared.refusal.Reason.{Reason}
 use Rattle.refusals.specs.declared.refusal.Reason.TheVariants.{MisplacedWord}
 use Rattle.refusals.specs.declared.refusal.Refusal.{Refusal}
 use Rattle.policy.specs.declared.word.Word.{Word}
-use Rattle.policy.specs.declared.word.Word.TheVariants.{Head, Value, Except, End, NoWord}
+use Rattle.policy.specs.declared.word.Word.TheVariants.{Head, Value, Except, End}
 use Rattle.policy.specs.Clauses.{Clause, Clauses, none, more}
-use Rattle.policy.specs.Decode.{word_of}
-use Rattle.policy.specs.Words.{Frame, Reading, fault, advanced, fault_from}
+use Rattle.policy.specs.Words.{Frame, Reading, checked, admitted, advanced, fault_from}
 use Rattle.policy.specs.Walk.{walk, listed, empty}
 use Rattle.policy.specs.Records.{clause_of}
 
@@ -41,26 +40,37 @@ grown r (Head k) ys = record { list = empty; exceptions = none } ∷ ys
 grown r (Value a c) ys = valued a c ys
 grown r Except ys = ys
 grown r End ys = shut_top r.open_clauses ys
-grown r NoWord ys = ys
+
+-- a word that is admitted is one, and has no fault
+pub checked_parts : (o : Option Word) (f : Word → Option Reason) (v : Word) → checked o f ≡ Ok v → (o ≡ Some v) × (f v ≡ None)
+checked_parts None f v e = absurd (cc)
+checked_parts (Some u) f v e = by (f u) refl e
+  where
+    by : (p : Option Reason) → f u ≡ p → ◌≡◌ {A = Result Word Reason} (elim p [ Some y ↦ Err y | None ↦ Ok u ]) (Ok v) → (Some u ≡ Some v) × (f v ≡ None)
+    by (Some y) q h = absurd (cc)
+    by None q h = let s : u ≡ v = cc in (ap Some s, ap f (sym s) ∙ q)
+
+pub checked_on : (o : Option Word) (f : Word → Option Reason) (v : Word) → o ≡ Some v → f v ≡ None → checked o f ≡ Ok v
+checked_on o f v e c = ap (λ q. checked q f) e ∙ ap (λ q. elim q [ Some y ↦ Err y | None ↦ Ok v ]) c
 
 -- one step of a walk
 module _ {X : Type 0} (f : Reading → Word → X → X) (z : Sizes) (r : Reading) (x : X) (i w : ℕ) (ws : List ℕ) where
-  pub walk_on : fault z r (word_of w) ≡ None → walk f z r x i (w ∷ ws) ≡ walk f z (advanced r (word_of w)) (f r (word_of w) x) (i + 1) ws
+  pub walk_on : (v : Word) → admitted z r w ≡ Ok v → walk f z r x i (w ∷ ws) ≡ walk f z (advanced r v) (f r v x) (i + 1) ws
   unfolding walk
-  walk_on e = ap (λ o. elim o [ Some y ↦ Err (record { reason = y; place = i }) | None ↦ walk f z (advanced r (word_of w)) (f r (word_of w) x) (i + 1) ws ]) e
+  walk_on v e = ap (λ o. elim o [ Err y ↦ Err (record { reason = y; place = i }) | Ok u ↦ walk f z (advanced r u) (f r u x) (i + 1) ws ]) e
 
-  pub walk_stop : (y : Reason) → fault z r (word_of w) ≡ Some y → walk f z r x i (w ∷ ws) ≡ Err (record { reason = y; place = i })
+  pub walk_stop : (y : Reason) → admitted z r w ≡ Err y → walk f z r x i (w ∷ ws) ≡ Err (record { reason = y; place = i })
   unfolding walk
-  walk_stop y e = ap (λ o. elim o [ Some y ↦ Err (record { reason = y; place = i }) | None ↦ walk f z (advanced r (word_of w)) (f r (word_of w) x) (i + 1) ws ]) e
+  walk_stop y e = ap (λ o. elim o [ Err y ↦ Err (record { reason = y; place = i }) | Ok u ↦ walk f z (advanced r u) (f r u x) (i + 1) ws ]) e
 
 module _ (z : Sizes) (r : Reading) (i w : ℕ) (ws : List ℕ) where
-  pub fault_on : fault z r (word_of w) ≡ None → fault_from z r i (w ∷ ws) ≡ fault_from z (advanced r (word_of w)) (i + 1) ws
+  fault_on : (v : Word) → admitted z r w ≡ Ok v → fault_from z r i (w ∷ ws) ≡ fault_from z (advanced r v) (i + 1) ws
   unfolding fault_from
-  fault_on e = ap (λ o. elim o [ Some y ↦ Some (record { reason = y; place = i }) | None ↦ fault_from z (advanced r (word_of w)) (i + 1) ws ]) e
+  fault_on v e = ap (λ o. elim o [ Err y ↦ Some (record { reason = y; place = i }) | Ok u ↦ fault_from z (advanced r u) (i + 1) ws ]) e
 
-  pub fault_stop : (y : Reason) → fault z r (word_of w) ≡ Some y → fault_from z r i (w ∷ ws) ≡ Some (record { reason = y; place = i })
+  fault_stop : (y : Reason) → admitted z r w ≡ Err y → fault_from z r i (w ∷ ws) ≡ Some (record { reason = y; place = i })
   unfolding fault_from
-  fault_stop y e = ap (λ o. elim o [ Some y ↦ Some (record { reason = y; place = i }) | None ↦ fault_from z (advanced r (word_of w)) (i + 1) ws ]) e
+  fault_stop y e = ap (λ o. elim o [ Err y ↦ Some (record { reason = y; place = i }) | Ok u ↦ fault_from z (advanced r u) (i + 1) ws ]) e
 
 -- whatever is made on the way, the words are declined where `fault_from` says
 abbrev pub Agrees : {X : Type 0} → Option Refusal → Result X Refusal → Type 0
@@ -81,9 +91,9 @@ module _ {X : Type 0} (f : Reading → Word → X → X) (z : Sizes) where
 
   pub agrees : (ws : List ℕ) (r : Reading) (x : X) (i : ℕ) → Agrees (fault_from z r i ws) (walk f z r x i ws)
   agrees [] r x i = none_left r.open_clauses r.heads x i
-  agrees (w ∷ ws) r x i = by (fault z r (word_of w)) refl (agrees ws (advanced r (word_of w)) (f r (word_of w) x) (i + 1))
+  agrees (w ∷ ws) r x i = by (admitted z r w) refl (λ v. agrees ws (advanced r v) (f r v x) (i + 1))
     where
-      by : (o : Option Reason) → fault z r (word_of w) ≡ o → Agrees (fault_from z (advanced r (word_of w)) (i + 1) ws) (walk f z (advanced r (word_of w)) (f r (word_of w) x) (i + 1) ws)
+      by : (o : Result Word Reason) → admitted z r w ≡ o → ((v : Word) → Agrees (fault_from z (advanced r v) (i + 1) ws) (walk f z (advanced r v) (f r v x) (i + 1) ws))
           → Agrees (fault_from z r i (w ∷ ws)) (walk f z r x i (w ∷ ws))
-      by (Some y) e ih = rw (fault_stop z r i w ws y e, walk_stop f z r x i w ws y e) refl
-      by None e ih = rw (fault_on z r i w ws e, walk_on f z r x i w ws e) ih
+      by (Err y) e ih = rw (fault_stop z r i w ws y e, walk_stop f z r x i w ws y e) refl
+      by (Ok v) e ih = rw (fault_on z r i w ws v e, walk_on f z r x i w ws v e) (ih v)

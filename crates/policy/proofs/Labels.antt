@@ -1,5 +1,5 @@
 -- The list of a clause, one value after the other; and which number a word is.
-use Rattle.std.proofs.Common.{◌≡◌, ℕ, zero, suc, ◌+◌, ◌*◌, ◌/◌, ◌%◌, ◌^◌, ◌<◌, ◌≤◌, Bool, true, false, cond, ◌||◌, eqb, leb, [], ◌∷◌, ◌++◌, Some, None, sym, refl, ap, ◌∙◌, append_assoc, append-nil, one-mul, arith, lit<}
+use Rattle.std.proofs.Common.{◌≡◌, ℕ, zero, suc, ◌+◌, ◌*◌, ◌/◌, ◌%◌, ◌^◌, ◌<◌, ◌≤◌, Bool, true, false, cond, ◌||◌, eqb, leb, [], ◌∷◌, ◌++◌, Some, None, Option, sym, refl, ap, ◌∙◌, subst, append_assoc, append-nil, one-mul, arith, lit<}
 use native.Mathlib.Nat.{pow-le-pow_right}
 use lib.Bits.{bit_or}
 use lib.Pow.{low}
@@ -9,7 +9,7 @@ use Rattle.lattice.specs.declared.sizes.Sizes.{Sizes}
 use Rattle.policy.specs.declared.clause.Kind.TheVariants.{Allow, Deny}
 use Rattle.refusals.specs.declared.refusal.Reason.TheVariants.{BadValue, NotRising}
 use Rattle.policy.specs.declared.word.Word.{Word}
-use Rattle.policy.specs.declared.word.Word.TheVariants.{Head, Value, Except, End, NoWord}
+use Rattle.policy.specs.declared.word.Word.TheVariants.{Head, Value, Except, End}
 use Rattle.policy.specs.Decode.{word_of, value_word_of, plain}
 use Rattle.policy.specs.Words.{ALLOW, DENY, EXCEPT, END, value_word, values_below, list_words, in_range, list_in_range, size_of, value_fault, Small}
 use Rattle.policy.specs.Walk.{listed, empty}
@@ -22,25 +22,32 @@ Encodes w (Head Deny) = w ≡ DENY
 Encodes w (Value a c) = w ≡ value_word a c
 Encodes w Except = w ≡ EXCEPT
 Encodes w End = w ≡ END
-Encodes w NoWord = Unit {0}
 
-plain_encodes : (w : ℕ) (x : Word) → (w % 2 ^ 28 ≡ 0 → Encodes w x) → Encodes w (plain w x)
-plain_encodes w x f = cond_both (eqb (w % 2 ^ 28) 0) x NoWord (λ y. Encodes w y) (λ e. f (eqb-true _ _ e)) (λ e. tt)
+-- a number that is read as a word spells it
+abbrev EncodesSome : ℕ → Option Word → Type 0
+EncodesSome w None = Unit {0}
+EncodesSome w (Some x) = Encodes w x
 
-value_encodes : (w : ℕ) → w / 2 ^ 28 ≡ 3 → Encodes w (value_word_of w)
+plain_encodes : (w : ℕ) (x : Word) → (w % 2 ^ 28 ≡ 0 → Encodes w x) → EncodesSome w (plain w x)
+plain_encodes w x f = cond_both (eqb (w % 2 ^ 28) 0) (Some x) None (λ y. EncodesSome w y) (λ e. f (eqb-true _ _ e)) (λ e. tt)
+
+value_encodes : (w : ℕ) → w / 2 ^ 28 ≡ 3 → EncodesSome w (value_word_of w)
 value_encodes w h =
-    cond_both (eqb ((w / 2 ^ 8) % 2 ^ 16) 0) (Value ((w / 2 ^ 24) % 2 ^ 4) (w % 2 ^ 8)) NoWord (λ y. Encodes w y)
+    cond_both (eqb ((w / 2 ^ 8) % 2 ^ 16) 0) (Some (Value ((w / 2 ^ 24) % 2 ^ 4) (w % 2 ^ 8))) None (λ y. EncodesSome w y)
     (λ e. let z : (w / 2 ^ 8) % 2 ^ 16 ≡ 0 = eqb-true _ _ e in omega arith) (λ e. tt)
 
-pub encodes : (w : ℕ) → Encodes w (word_of w)
-encodes w =
+encodes_some : (w : ℕ) → EncodesSome w (word_of w)
+encodes_some w =
     let q = w / 2 ^ 28 in
-    let P : Word → Type 0 = λ y. Encodes w y in
+    let P : Option Word → Type 0 = λ y. EncodesSome w y in
     cond_both (eqb q 1) _ _ P (λ e. let h : q ≡ 1 = eqb-true _ _ e in plain_encodes w (Head Allow) (λ g. omega arith))
     (λ _. cond_both (eqb q 2) _ _ P (λ e. let h : q ≡ 2 = eqb-true _ _ e in plain_encodes w (Head Deny) (λ g. omega arith))
     (λ _. cond_both (eqb q 3) _ _ P (λ e. let h : q ≡ 3 = eqb-true _ _ e in value_encodes w h)
     (λ _. cond_both (eqb q 4) _ _ P (λ e. let h : q ≡ 4 = eqb-true _ _ e in plain_encodes w Except (λ g. omega arith))
     (λ _. cond_both (eqb q 5) _ _ P (λ e. let h : q ≡ 5 = eqb-true _ _ e in plain_encodes w End (λ g. omega arith)) (λ _. tt)))))
+
+pub encodes : (w : ℕ) (x : Word) → word_of w ≡ Some x → Encodes w x
+encodes w x e = subst (EncodesSome w) e (encodes_some w)
 
 -- every value of the set s of attribute b is at or below `last`
 abbrev pub Under : ℕ → ℕ → ℕ → Type 0

@@ -3,12 +3,10 @@ pub mod Bounds
 pub mod Antitone
 pub mod Evidence
 pub mod Rules
-pub mod Turns
 pub mod Records
 pub mod Verdicts
 pub mod Nesting
 pub mod Values
-pub mod Decoding
 pub mod Trees
 pub mod Steps
 pub mod Grown

@@ -1,7 +1,7 @@
 -- Nesting is a proposition, so it can be taken out of the ghost field that has it truncated.
 use mathlib.Core.Logic.{∥∥₁_elim}
 use mathlib.Core.HLevel.{Π_prop, →_prop}
-use Rattle.std.proofs.Common.{◌≡◌, ℕ, ◌-◌, List, take, drop, sym, ap, subst, arith}
+use Rattle.std.proofs.Common.{ℕ, List}
 use native.Mathlib.Bridge.{le_prop}
 use Rattle.policy.specs.declared.clause.ClauseRecord.{ClauseRecord}
 use Rattle.policy.specs.Records.{NestedAt, Nested}
@@ -16,8 +16,5 @@ nested_at_prop rs i p q = λ t. record {
 nested_prop : (rs : List ClauseRecord) → IsProp (Nested rs)
 nested_prop rs = Π_prop λ i. →_prop (nested_at_prop rs i)
 
--- a slice from the front nests where the records that it is made of do
-pub nested_front : (count : ℕ) (rs : List ClauseRecord) → ∥ Nested (take count rs) ∥₁ → Nested (take (count - 0) (drop 0 rs))
-nested_front count rs held =
-    let front : take (count - 0) (drop 0 rs) ≡ take count rs = ap (λ k. take k rs) (omega arith) in
-    subst Nested (sym front) (∥∥₁_elim held (nested_prop (take count rs)) (λ h. h))
+pub nested_held : (rs : List ClauseRecord) → ∥ Nested rs ∥₁ → Nested rs
+nested_held rs held = ∥∥₁_elim held (nested_prop rs) (λ h. h)

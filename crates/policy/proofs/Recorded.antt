@@ -1,28 +1,25 @@
 -- The records that are made of words stand for the clause that the words spell.
-use Rattle.std.proofs.Common.{◌≡◌, ℕ, suc, ◌+◌, ◌<◌, ◌≤◌, Bool, true, false, cond, eqb, List, [], ◌∷◌, length, set, Some, None, Ok, Err, Option, Result, sym, refl, ap, ◌∙◌, subst, arith, length-set, get_or-set_other, get_or-set_same}
-use Rattle.std.proofs.lemmas.Bool.{eqb-true}
+use Rattle.std.proofs.Common.{◌≡◌, ℕ, ◌+◌, ◌<◌, ◌≤◌, Bool, true, false, cond, eqb, List, [], ◌∷◌, ◌++◌, length, set, Some, None, Ok, Err, Option, Result, sym, refl, ap, ◌∙◌, subst, arith, length-append, length-set, get_or-set_other, get_or-set_same}
+use Rattle.std.proofs.lemmas.List.{get_or_append_left}
 use Rattle.policy.specs.declared.label.Label.{Label}
 use Rattle.lattice.specs.declared.sizes.Sizes.{Sizes}
 use Rattle.policy.specs.declared.clause.Kind.{Kind}
 use Rattle.policy.specs.declared.clause.Kind.TheVariants.{Allow, Deny}
-use Rattle.policy.specs.declared.draft.Phase.{Phase}
-use Rattle.policy.specs.declared.draft.Phase.TheVariants.{Listing, Excepting, Excepted}
 use Rattle.policy.specs.declared.clause.ClauseRecord.{ClauseRecord}
 use Rattle.refusals.specs.declared.refusal.Reason.{Reason}
 use Rattle.refusals.specs.declared.refusal.Reason.TheVariants.{MisplacedWord}
 use Rattle.refusals.specs.declared.refusal.Refusal.{Refusal}
 use Rattle.policy.specs.declared.word.Word.{Word}
-use Rattle.policy.specs.declared.word.Word.TheVariants.{Head, Value, Except, End, NoWord}
+use Rattle.policy.specs.declared.word.Word.TheVariants.{Head, Value, Except, End}
 use Rattle.policy.specs.Clauses.{Clause, Clauses, allow, deny, none, more, clause_count, clauses_count}
 use Rattle.policy.specs.Decode.{word_of}
 use Rattle.policy.specs.Labels.{filled}
-use Rattle.policy.specs.Words.{Frame, Reading, fault, fault_in, advanced, ended, meaning, meanings}
+use Rattle.policy.specs.Words.{Frame, Reading, fault, admitted, advanced, ended, meaning, meanings}
 use Rattle.policy.specs.Walk.{walk, listed, fresh, closed, Slot, Records, recorded, top_ended}
 use Rattle.policy.specs.Records.{clause_of, record_at}
 use Rattle.policy.specs.Laid.{LaidClause, Laid}
 use Rattle.policy.proofs.Trees.{laid_same}
-use Rattle.policy.proofs.Grown.{Node, snoc, shut, grown, walk_on, walk_stop}
-use Rattle.policy.proofs.Sound.{sound_head}
+use Rattle.policy.proofs.Grown.{Node, snoc, shut, grown, checked_parts, walk_on, walk_stop}
 
 mutual
   pub count_meaning : (z : Sizes) (c : Clause) → clause_count (meaning z c) ≡ clause_count c
@@ -144,104 +141,73 @@ module _ (z : Sizes) where
   impossible : {r : Reason} → ◌≡◌ {A = Option Reason} (Some r) None → ⊥
   impossible e = let z : ◌≡◌ {A = ℕ} 0 1 = cc in omega arith
 
-  head_room : (fs : List Frame) (heads : ℕ) (k : Kind) → fault z (record { open_clauses = fs; heads = heads }) (Head k) ≡ None → heads < 256
-  head_room [] heads k e = by (eqb heads 0) refl e
-    where
-      by : (b : Bool) → eqb heads 0 ≡ b → cond b None (Some MisplacedWord) ≡ None → heads < 256
-      by true eb q = let h = eqb-true _ _ eb in omega arith
-      by false eb q = absurd (impossible q)
-  head_room (f ∷ fs) heads k e = by f.phase e
-    where
-      by : (p : Phase) → fault_in z (suc (length fs)) heads f.kind f.last p (Head k) ≡ None → heads < 256
-      by Listing q = absurd (impossible q)
-      by Excepting q = (sound_head (suc (length fs)) heads f.kind k q).few
-      by Excepted q = (sound_head (suc (length fs)) heads f.kind k q).few
-
   abbrev Simulates : List Frame → List Node → ℕ → Records → Word → Type 0
   Simulates fs ys heads x v =
       Sim z (advanced (record { open_clauses = fs; heads = heads }) v).open_clauses (grown (record { open_clauses = fs; heads = heads }) v ys)
       (recorded z (record { open_clauses = fs; heads = heads }) v x).opens (advanced (record { open_clauses = fs; heads = heads }) v).heads
       (recorded z (record { open_clauses = fs; heads = heads }) v x).clauses
 
-  top_step : (fs : List Frame) (ys : List Node) (ss : List Slot) (heads : ℕ) (rs : List ClauseRecord) (n : ℕ) → length rs ≡ 256 → heads ≤ 256 → Sim z fs ys ss heads rs
-      → (v : Word) → fault z (record { open_clauses = fs; heads = heads }) v ≡ None → Simulates fs ys heads (record { opens = ss; clauses = rs; count = n }) v
-  top_step fs ys ss heads rs n len few p (Head k) e = (record { kind = refl; list = refl; inside = tt; upto = omega arith }, p)
-  top_step [] ys ss heads rs n len few p (Value a c) e = absurd (impossible e)
-  top_step (f ∷ fs) [] ss heads rs n len few p (Value a c) e = absurd p
-  top_step (f ∷ fs) (y ∷ ys) [] heads rs n len few p (Value a c) e = absurd p
-  top_step (f ∷ fs) (y ∷ ys) (s ∷ ss) heads rs n len few p (Value a c) e = (record { kind = p.0.kind; list = ap (listed a c) p.0.list; inside = p.0.inside; upto = p.0.upto }, p.1)
-  top_step [] ys ss heads rs n len few p Except e = absurd (impossible e)
-  top_step (f ∷ fs) [] ss heads rs n len few p Except e = absurd p
-  top_step (f ∷ fs) (y ∷ ys) [] heads rs n len few p Except e = absurd p
-  top_step (f ∷ fs) (y ∷ ys) (s ∷ ss) heads rs n len few p Except e = (record { kind = p.0.kind; list = p.0.list; inside = p.0.inside; upto = p.0.upto }, p.1)
-  top_step [] ys ss heads rs n len few p End e = absurd (impossible e)
-  top_step (f ∷ fs) [] ss heads rs n len few p End e = absurd p
-  top_step (f ∷ fs) (y ∷ ys) [] heads rs n len few p End e = absurd p
-  top_step (f ∷ fs) (y ∷ ys) (s ∷ ss) heads rs n len few p End e = end_step f y s heads rs (omega arith) p.0 fs ys ss p.1
-  top_step [] ys ss heads rs n len few p NoWord e = absurd (impossible e)
-  top_step (f ∷ fs) ys ss heads rs n len few p NoWord e = absurd (impossible e)
-
-  sim_step : (fs : List Frame) (ys : List Node) (heads : ℕ) (x : Records) → length x.clauses ≡ 256 → heads ≤ 256 → Sim z fs ys x.opens heads x.clauses
-      → (v : Word) → fault z (record { open_clauses = fs; heads = heads }) v ≡ None → Simulates fs ys heads x v
-  sim_step fs ys heads x len few s v e = top_step fs ys x.opens heads x.clauses x.count len few s v e
+  top_step : (fs : List Frame) (ys : List Node) (ss : List Slot) (heads : ℕ) (rs : List ClauseRecord) → length rs ≡ heads → Sim z fs ys ss heads rs
+      → (v : Word) → fault z (record { open_clauses = fs; heads = heads }) v ≡ None → Simulates fs ys heads (record { opens = ss; clauses = rs }) v
+  top_step fs ys ss heads rs len p (Head k) e = (
+    record { kind = refl; list = refl; inside = tt; upto = omega arith },
+    sim_same z fs ys ss heads rs (rs ++ fresh k ∷ []) (λ j low. get_or_append_left rs (fresh k ∷ []) (fresh Allow) j (omega arith)) p,
+  )
+  top_step [] ys ss heads rs len p (Value a c) e = absurd (impossible e)
+  top_step (f ∷ fs) [] ss heads rs len p (Value a c) e = absurd p
+  top_step (f ∷ fs) (y ∷ ys) [] heads rs len p (Value a c) e = absurd p
+  top_step (f ∷ fs) (y ∷ ys) (s ∷ ss) heads rs len p (Value a c) e = (record { kind = p.0.kind; list = ap (listed a c) p.0.list; inside = p.0.inside; upto = p.0.upto }, p.1)
+  top_step [] ys ss heads rs len p Except e = absurd (impossible e)
+  top_step (f ∷ fs) [] ss heads rs len p Except e = absurd p
+  top_step (f ∷ fs) (y ∷ ys) [] heads rs len p Except e = absurd p
+  top_step (f ∷ fs) (y ∷ ys) (s ∷ ss) heads rs len p Except e = (record { kind = p.0.kind; list = p.0.list; inside = p.0.inside; upto = p.0.upto }, p.1)
+  top_step [] ys ss heads rs len p End e = absurd (impossible e)
+  top_step (f ∷ fs) [] ss heads rs len p End e = absurd p
+  top_step (f ∷ fs) (y ∷ ys) [] heads rs len p End e = absurd p
+  top_step (f ∷ fs) (y ∷ ys) (s ∷ ss) heads rs len p End e = end_step f y s heads rs (omega arith) p.0 fs ys ss p.1
 
   ended_length : (n : ℕ) (ss : List Slot) (rs : List ClauseRecord) → length (top_ended z n ss rs) ≡ length rs
   ended_length n [] rs = refl
   ended_length n (s ∷ ss) rs = length-set rs s.number (closed z n s.filling)
 
-  recorded_length : (r : Reading) (v : Word) (x : Records) → length (recorded z r v x).clauses ≡ length x.clauses
-  recorded_length r (Head k) x = refl
-  recorded_length r (Value a c) x = refl
-  recorded_length r Except x = refl
-  recorded_length r End x = ended_length r.heads x.opens x.clauses
-  recorded_length r NoWord x = refl
+  recorded_length : (r : Reading) (v : Word) (x : Records) → length x.clauses ≡ r.heads → length (recorded z r v x).clauses ≡ (advanced r v).heads
+  recorded_length r (Head k) x e = length-append x.clauses (fresh k ∷ []) ∙ ap (λ n. n + 1) e
+  recorded_length r (Value a c) x e = e
+  recorded_length r Except x e = e
+  recorded_length r End x e = ended_length r.heads x.opens x.clauses ∙ e
 
-  advanced_few : (fs : List Frame) (heads : ℕ) (v : Word) → heads ≤ 256 → fault z (record { open_clauses = fs; heads = heads }) v ≡ None → (advanced (record { open_clauses = fs; heads = heads }) v).heads ≤ 256
-  advanced_few fs heads (Head k) h e = omega (arith, head_room fs heads k e)
-  advanced_few fs heads (Value a c) h e = h
-  advanced_few fs heads Except h e = h
-  advanced_few fs heads End h e = h
-  advanced_few fs heads NoWord h e = h
-
-  recorded_count : (r : Reading) (v : Word) (x : Records) → x.count ≡ r.heads → (recorded z r v x).count ≡ (advanced r v).heads
-  recorded_count r (Head k) x e = refl
-  recorded_count r (Value a c) x e = e
-  recorded_count r Except x e = e
-  recorded_count r End x e = e
-  recorded_count r NoWord x e = e
-
-  ends_here : (fs : List Frame) (ys : List Node) (heads : ℕ) (x₀ : Records) (i : ℕ) (out : List Node) (x : Records) → Sim z fs ys x₀.opens heads x₀.clauses → x₀.count ≡ heads
+  ends_here : (fs : List Frame) (ys : List Node) (heads : ℕ) (x₀ : Records) (i : ℕ) (out : List Node) (x : Records) → Sim z fs ys x₀.opens heads x₀.clauses → length x₀.clauses ≡ heads
       → walk grown z (record { open_clauses = fs; heads = heads }) ys i [] ≡ Ok out → walk (recorded z) z (record { open_clauses = fs; heads = heads }) x₀ i [] ≡ Ok x
-      → Sim z [] out x.opens x.count x.clauses
+      → Sim z [] out x.opens (length x.clauses) x.clauses
   unfolding walk
   ends_here [] ys heads x₀ i out x s c p q = by (eqb heads 0) p q
     where
       by : (b : Bool) → ◌≡◌ {A = Result (List Node) Refusal} (cond b (Err (record { reason = MisplacedWord; place = i })) (Ok ys)) (Ok out)
-          → ◌≡◌ {A = Result Records Refusal} (cond b (Err (record { reason = MisplacedWord; place = i })) (Ok x₀)) (Ok x) → Sim z [] out x.opens x.count x.clauses
+          → ◌≡◌ {A = Result Records Refusal} (cond b (Err (record { reason = MisplacedWord; place = i })) (Ok x₀)) (Ok x) → Sim z [] out x.opens (length x.clauses) x.clauses
       by true p q = absurd (let z : ◌≡◌ {A = ℕ} 0 1 = cc in omega arith)
       by false p q =
           let e₁ : ys ≡ out = cc in
           let e₂ : x₀ ≡ x = cc in
           let s₁ : Sim z [] out x₀.opens heads x₀.clauses = subst (λ o. Sim z [] o x₀.opens heads x₀.clauses) e₁ s in
-          let s₂ : Sim z [] out x₀.opens x₀.count x₀.clauses = subst (λ n. Sim z [] out x₀.opens n x₀.clauses) (sym c) s₁ in
-          subst (λ y. Sim z [] out y.opens y.count y.clauses) e₂ s₂
+          let s₂ : Sim z [] out x₀.opens (length x₀.clauses) x₀.clauses = subst (λ n. Sim z [] out x₀.opens n x₀.clauses) (sym c) s₁ in
+          subst (λ y. Sim z [] out y.opens (length y.clauses) y.clauses) e₂ s₂
   ends_here (f ∷ fs) ys heads x₀ i out x s c p q = absurd (let z : ◌≡◌ {A = ℕ} 0 1 = cc in omega arith)
 
-  pub simulates : (ws : List ℕ) (fs : List Frame) (ys : List Node) (heads : ℕ) (x₀ : Records) (i : ℕ) (out : List Node) (x : Records) → length x₀.clauses ≡ 256 → heads ≤ 256 → Sim z fs ys x₀.opens heads x₀.clauses → x₀.count ≡ heads
+  pub simulates : (ws : List ℕ) (fs : List Frame) (ys : List Node) (heads : ℕ) (x₀ : Records) (i : ℕ) (out : List Node) (x : Records) → Sim z fs ys x₀.opens heads x₀.clauses → length x₀.clauses ≡ heads
       → walk grown z (record { open_clauses = fs; heads = heads }) ys i ws ≡ Ok out → walk (recorded z) z (record { open_clauses = fs; heads = heads }) x₀ i ws ≡ Ok x
-      → Sim z [] out x.opens x.count x.clauses
-  simulates [] fs ys heads x₀ i out x len few s c p q = ends_here fs ys heads x₀ i out x s c p q
-  simulates (w ∷ ws) fs ys heads x₀ i out x len few s c p q =
-      by (fault z now_reading (word_of w)) refl
-      (λ e. simulates ws (advanced now_reading (word_of w)).open_clauses (grown now_reading (word_of w) ys) (advanced now_reading (word_of w)).heads (recorded z now_reading (word_of w) x₀) (i + 1) out x
-      (recorded_length now_reading (word_of w) x₀ ∙ len) (advanced_few fs heads (word_of w) few e) (sim_step fs ys heads x₀ len few s (word_of w) e) (recorded_count now_reading (word_of w) x₀ c))
+      → Sim z [] out x.opens (length x.clauses) x.clauses
+  simulates [] fs ys heads x₀ i out x s c p q = ends_here fs ys heads x₀ i out x s c p q
+  simulates (w ∷ ws) fs ys heads x₀ i out x s c p q =
+      by (admitted z now_reading w) refl (λ v f.
+      simulates ws (advanced now_reading v).open_clauses (grown now_reading v ys) (advanced now_reading v).heads (recorded z now_reading v x₀) (i + 1) out x
+      (top_step fs ys x₀.opens heads x₀.clauses c s v (checked_parts (word_of w) (fault z now_reading) v f).1) (recorded_length now_reading v x₀ c))
     where
       now_reading : Reading
       now_reading = record { open_clauses = fs; heads = heads }
 
-      by : (o : Option Reason) → fault z now_reading (word_of w) ≡ o
-          → (fault z now_reading (word_of w) ≡ None → walk grown z (advanced now_reading (word_of w)) (grown now_reading (word_of w) ys) (i + 1) ws ≡ Ok out
-          → walk (recorded z) z (advanced now_reading (word_of w)) (recorded z now_reading (word_of w) x₀) (i + 1) ws ≡ Ok x → Sim z [] out x.opens x.count x.clauses)
-          → Sim z [] out x.opens x.count x.clauses
-      by (Some y) f ih = absurd (let t = walk_stop grown z now_reading ys i w ws y f in let z : ◌≡◌ {A = ℕ} 0 1 = cc in omega arith)
-      by None f ih = ih f (sym (walk_on grown z now_reading ys i w ws f) ∙ p) (sym (walk_on (recorded z) z now_reading x₀ i w ws f) ∙ q)
+      by : (o : Result Word Reason) → admitted z now_reading w ≡ o
+          → ((v : Word) → admitted z now_reading w ≡ Ok v → walk grown z (advanced now_reading v) (grown now_reading v ys) (i + 1) ws ≡ Ok out
+          → walk (recorded z) z (advanced now_reading v) (recorded z now_reading v x₀) (i + 1) ws ≡ Ok x → Sim z [] out x.opens (length x.clauses) x.clauses)
+          → Sim z [] out x.opens (length x.clauses) x.clauses
+      by (Err y) f ih = absurd (let t = walk_stop grown z now_reading ys i w ws y f in let z : ◌≡◌ {A = ℕ} 0 1 = cc in omega arith)
+      by (Ok v) f ih = ih v f (sym (walk_on grown z now_reading ys i w ws v f) ∙ p) (sym (walk_on (recorded z) z now_reading x₀ i w ws v f) ∙ q)

@@ -1,5 +1,5 @@
 -- How clauses are read off a row of records, one turn after another. Assumes nothing.
-use Rattle.std.proofs.Common.{◌≡◌, ℕ, zero, suc, ◌+◌, ◌<◌, ◌≤◌, Bool, true, false, cond, not, ◌&&◌, ◌||◌, eqb, ltb, ◌⊎◌, List, [], ◌∷◌, length, get_or, drop, sym, refl, ap, ◌∙◌, ap₂, inl, inr, add-one, arith, drop-cons}
+use Rattle.std.proofs.Common.{◌≡◌, ℕ, zero, suc, ◌+◌, ◌<◌, ◌≤◌, Bool, true, false, cond, not, ◌&&◌, ◌||◌, eqb, ltb, ◌⊎◌, List, [], ◌∷◌, length, get_or, drop, Some, sym, refl, ap, ◌∙◌, ap₂, inl, inr, add-one, arith, drop-cons}
 use mathlib.Core.Bool.{beq}
 use Rattle.std.proofs.lemmas.Bool.{both_ways, cases_eq, cond-true, cond-false, eq-eqb, ne_eqb, lt-ltb, le-ltb}
 use Rattle.lattice.specs.Schemes.{Scheme}
@@ -7,7 +7,6 @@ use Rattle.policy.specs.Clauses.{Label, Clause, Clauses, none, more, allows, all
 use Rattle.policy.specs.declared.clause.Kind.{Kind}
 use Rattle.policy.specs.declared.clause.Kind.TheVariants.{Allow, Deny}
 use Rattle.policy.specs.declared.clause.ClauseRecord.{ClauseRecord}
-use Rattle.policy.specs.declared.deciding.Opening.TheVariants.{Asks}
 use Rattle.policy.specs.Records.{is_allow, clause_of, begun, clauses_from, no_record, tree, NestedAt, Nested, exceptions, first_other, Opens}
 
 -- ---- the clauses from a number on
@@ -179,7 +178,7 @@ beq_other false false h = absurd (both_ways false refl h)
 pub record Asked (s : Scheme) (rs : List ClauseRecord) (i : ℕ) (label t : Label) (usual : Bool) : Type 0 where
   pub nested : Nested rs
   pub inside : i < length rs
-  pub opened : Opens s (get_or rs i no_record) label (Asks t)
+  pub opened : Opens s (get_or rs i no_record) label (Some t)
   pub usual_is : usual ≡ is_allow (get_or rs i no_record).kind
 
 -- what the exceptions from the number j on come to, and which clause decides

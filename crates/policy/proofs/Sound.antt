@@ -12,15 +12,15 @@ use Rattle.refusals.specs.declared.refusal.Reason.{Reason}
 use Rattle.refusals.specs.declared.refusal.Reason.TheVariants.{MisplacedWord, SameKind, TooNested}
 use Rattle.refusals.specs.declared.refusal.Refusal.{Refusal}
 use Rattle.policy.specs.declared.word.Word.{Word}
-use Rattle.policy.specs.declared.word.Word.TheVariants.{Head, Value, Except, End, NoWord}
+use Rattle.policy.specs.declared.word.Word.TheVariants.{Head, Value, Except, End}
 use Rattle.policy.specs.Clauses.{Clause, Clauses, allow, deny, none, more, clause_count, clauses_count}
 use Rattle.policy.specs.Decode.{word_of}
-use Rattle.policy.specs.Words.{Frame, fault, fault_in, fault_outside, head_fault, value_fault, same_kind, advanced, ended, opened, list_words, in_range, list_in_range, spelled, spelled_exceptions, spelled_rest, ALLOW, DENY, EXCEPT, END, value_word, well_formed, all_deny, all_allow, depth, depths, Small}
+use Rattle.policy.specs.Words.{Frame, Reading, fault, admitted, fault_in, fault_outside, head_fault, value_fault, same_kind, advanced, ended, opened, list_words, in_range, list_in_range, spelled, spelled_exceptions, spelled_rest, ALLOW, DENY, EXCEPT, END, value_word, well_formed, all_deny, all_allow, depth, depths, Small}
 use Rattle.policy.specs.Walk.{walk, listed, empty}
 use Rattle.policy.specs.Records.{clause_of}
 use Rattle.policy.proofs.Labels.{Encodes, encodes, UnderAll, pushed, sound_value, list_empty}
 use Rattle.policy.proofs.Trees.{count_pos}
-use Rattle.policy.proofs.Grown.{Node, snoc, shut, grown, walk_on, walk_stop}
+use Rattle.policy.proofs.Grown.{Node, snoc, shut, grown, checked_parts, walk_on, walk_stop}
 
 abbrev pub HEAD : Kind → ℕ
 HEAD Allow = ALLOW
@@ -179,9 +179,6 @@ empty_in_range z = let p : (n : ℕ) → in_range n 0 ≡ true = λ n. and_from 
 head_words : (k : Kind) (xs : List ℕ) → HEAD k ∷ (list_words empty ++ []) ≡ HEAD k ∷ []
 head_words k xs = ap (λ ys. HEAD k ∷ ys) (append-nil (list_words empty) ∙ list_empty)
 
-encoded : (w : ℕ) (v : Word) → word_of w ≡ v → Encodes w v
-encoded w v e = subst (λ x. Encodes w x) e (encodes w)
-
 head_encoded : (w : ℕ) (k : Kind) → Encodes w (Head k) → w ≡ HEAD k
 head_encoded w Allow e = e
 head_encoded w Deny e = e
@@ -308,7 +305,6 @@ module _ (z : Sizes) (small : Small z) (w : ℕ) where
 
   top_step : (k : Kind) (p : Phase) (t : ℕ) (fs : List Frame) (y : Node) (ys : List Node) (heads : ℕ) → GoodFrame z (suc (length fs)) (top k p t) y → GoodUnder z k fs ys → heads ≡ count_open (top k p t ∷ fs) (y ∷ ys) → heads ≤ 256
       → (v : Word) → Encodes w v → fault_in z (suc (length fs)) heads k t p v ≡ None → Stepped (top k p t ∷ fs) heads (y ∷ ys) v
-  top_step k p t fs y ys heads g u n few NoWord ew e = absurd (impossible e)
   top_step k Listing t fs y ys heads g u n few (Head j) ew e = absurd (impossible e)
   top_step k Listing t fs y ys heads g u n few (Value a c) ew e = value_step k t a c fs y ys heads g u n few e ew
   top_step k Listing t fs y ys heads g u n few Except ew e = except_step k t fs y ys heads g u n few ew
@@ -327,7 +323,6 @@ module _ (z : Sizes) (small : Small z) (w : ℕ) where
   outside_step y heads g n (Value a c) ew e = absurd (impossible e)
   outside_step y heads g n Except ew e = absurd (impossible e)
   outside_step y heads g n End ew e = absurd (impossible e)
-  outside_step y heads g n NoWord ew e = absurd (impossible e)
 
   pub step : (fs : List Frame) (ys : List Node) (heads : ℕ) → Good z fs ys → heads ≡ count_open fs ys → heads ≤ 256
       → (v : Word) → Encodes w v → fault z (record { open_clauses = fs; heads = heads }) v ≡ None → Stepped fs heads ys v
@@ -379,13 +374,17 @@ module _ (z : Sizes) (small : Small z) (all : List ℕ) where
       → walk grown z (record { open_clauses = fs; heads = heads }) ys i ws ≡ Ok out → Spelt z all out
   sound [] fs ys heads i out g n few e q = at_end fs ys heads i out g n few e q
   sound (w ∷ ws) fs ys heads i out g n few e q =
-      by (fault z (record { open_clauses = fs; heads = heads }) (word_of w)) refl
-      (λ f. let s = step z small w fs ys heads g n few (word_of w) (encodes w) f in
-      sound ws (advanced (record { open_clauses = fs; heads = heads }) (word_of w)).open_clauses (grown (record { open_clauses = fs; heads = heads }) (word_of w) ys) (advanced (record { open_clauses = fs; heads = heads }) (word_of w)).heads (i + 1) out
+      by (admitted z now_reading w) refl (λ v f.
+      let p = checked_parts (word_of w) (fault z now_reading) v f in
+      let s = step z small w fs ys heads g n few v (encodes w v p.0) p.1 in
+      sound ws (advanced now_reading v).open_clauses (grown now_reading v ys) (advanced now_reading v).heads (i + 1) out
       s.good s.count s.few (ap (λ xs. xs ++ ws) s.words ∙ append_assoc (spelled_open fs ys) (w ∷ []) ws ∙ e))
     where
-      by : (o : Option Reason) → fault z (record { open_clauses = fs; heads = heads }) (word_of w) ≡ o
-          → (fault z (record { open_clauses = fs; heads = heads }) (word_of w) ≡ None → walk grown z (advanced (record { open_clauses = fs; heads = heads }) (word_of w)) (grown (record { open_clauses = fs; heads = heads }) (word_of w) ys) (i + 1) ws ≡ Ok out → Spelt z all out)
+      now_reading : Reading
+      now_reading = record { open_clauses = fs; heads = heads }
+
+      by : (o : Result Word Reason) → admitted z now_reading w ≡ o
+          → ((v : Word) → admitted z now_reading w ≡ Ok v → walk grown z (advanced now_reading v) (grown now_reading v ys) (i + 1) ws ≡ Ok out → Spelt z all out)
           → Spelt z all out
-      by (Some y) f ih = absurd (let s = walk_stop grown z (record { open_clauses = fs; heads = heads }) ys i w ws y f in let z : ◌≡◌ {A = ℕ} 0 1 = cc in omega arith)
-      by None f ih = ih f (sym (walk_on grown z (record { open_clauses = fs; heads = heads }) ys i w ws f) ∙ q)
+      by (Err y) f ih = absurd (let s = walk_stop grown z now_reading ys i w ws y f in let z : ◌≡◌ {A = ℕ} 0 1 = cc in omega arith)
+      by (Ok v) f ih = ih v f (sym (walk_on grown z now_reading ys i w ws v f) ∙ q)

@@ -1,10 +1,11 @@
 -- One word of a reader, as one step of the walk.
-use Rattle.std.proofs.Common.{◌≡◌, ℕ, suc, ◌+◌, ◌-◌, ◌*◌, ◌<◌, ◌≤◌, List, [], ◌∷◌, length, get_or, take, drop, Some, None, Ok, Err, Option, Result, sym, refl, ap, ◌∙◌, subst, arith, length-drop}
-use Rattle.std.proofs.lemmas.List.{drop-drop, take_rest}
+use Rattle.std.proofs.Common.{◌≡◌, ℕ, suc, ◌+◌, ◌-◌, ◌<◌, ◌≤◌, List, [], ◌∷◌, ◌++◌, length, slice_set, get_or, take, drop, Ok, Err, Result, sym, refl, ap, ◌∙◌, subst, arith, length-drop, length-append, length-set}
+use Rattle.std.proofs.lemmas.List.{drop-drop, take_rest, take-append-le}
+use Rattle.std.proofs.Math.Seq.{take-length}
+use Rattle.std.specs.List.{refill}
+use Rattle.arrayvec.specs.ArrayVec.{ArrayVec}
 use Rattle.policy.specs.declared.clause.Kind.{Kind}
-use Rattle.policy.specs.declared.clause.Kind.TheVariants.{Allow, Deny}
-use Rattle.policy.specs.declared.draft.Phase.{Phase}
-use Rattle.policy.specs.declared.draft.Phase.TheVariants.{Listing, Excepting, Excepted}
+use Rattle.policy.specs.declared.draft.Phase.TheVariants.{Excepting, Excepted}
 use Rattle.policy.specs.declared.draft.Open.{Open}
 use Rattle.policy.specs.declared.draft.Draft.{Draft}
 use Rattle.policy.specs.declared.clause.ClauseRecord.{ClauseRecord}
@@ -14,9 +15,18 @@ use Rattle.refusals.specs.declared.refusal.Refusal.{Refusal}
 use Rattle.policy.specs.declared.word.Word.{Word}
 use Rattle.policy.specs.declared.word.Word.TheVariants.{Head, Value, Except, End}
 use Rattle.policy.specs.Decode.{word_of}
-use Rattle.policy.specs.Words.{Frame, Reading, fault_in, advanced, ended}
+use Rattle.policy.specs.Words.{Frame, position, Reading, checked, admitted, fault_in, advanced, ended}
 use Rattle.policy.specs.Walk.{walk, Slot, Records, recorded, fresh, with_value, closed}
-use Rattle.policy.specs.Reads.{Ready, frame_of, slot, goes, stored, numbered, Closes, Stops, Reads}
+use Rattle.policy.specs.Reads.{Ready, frame_of, slot, goes, stored, numbered, just_open, Closes, Stops, Reads, Behind}
+use Rattle.policy.specs.Sized.{Sized}
+use Rattle.policy.proofs.Grown.{walk_on, walk_stop}
+
+-- the words `all` of a clause are read as far as `ws`: whatever the rest comes to, all of them come to
+pub record Along (k : Kind) (depth : ℕ) (start : Draft) (all : List ℕ) (number : ℕ) (o : Open) (d : Draft) (x : ClauseRecord) (ws : List ℕ) : Type 0 where
+  pub ready : Ready o d ws
+  pub given : number ≡ length start.clauses.items
+  pub inside : number < length d.clauses.items
+  pub on : (r : Result ℕ Refusal) (e : Draft) (y : ClauseRecord) → Reads k o d x ws r e y → Reads k (just_open depth) (numbered k start) (fresh k) all r e y
 
 -- `rest` of the pattern `[first, rest @ ..]`
 abbrev pub tail : List ℕ → List ℕ
@@ -26,13 +36,23 @@ pub tail_is : (ws : List ℕ) → tail ws ≡ drop 1 ws
 tail_is ws = take_rest ws 1
 
 abbrev reading : Kind → Open → Draft → List Frame → Reading
-reading k o d fs = record { open_clauses = frame_of k o ∷ fs; heads = d.count }
+reading k o d fs = record { open_clauses = frame_of k o ∷ fs; heads = (length d.clauses.items) }
 
 abbrev records : Draft → List Slot → Records
-records d ss = record { opens = ss; clauses = d.clauses; count = d.count }
+records d ss = record { opens = ss; clauses = d.clauses.items }
 
-abbrev no_fault : Kind → Open → Draft → Word → Option Reason
-no_fault k o d w = fault_in d.sizes o.depth d.count k o.last o.phase w
+-- the first of the words, as it is taken inside the open clause
+abbrev pub seen : Kind → Open → Draft → List ℕ → Result Word Reason
+seen k o d ws = checked (word_of (get_or ws 0 0)) (fault_in d.sizes o.depth (length d.clauses.items) k (position o.last.0 o.last.1) o.phase)
+
+pub seen_by : (k : Kind) (o : Open) (d : Draft) (ws : List ℕ) (n : ℕ) (r : Result Word Reason) → n ≡ length d.clauses.items
+    → r ≡ checked (word_of (get_or ws 0 0)) (fault_in d.sizes o.depth n k (position o.last.0 o.last.1) o.phase) → seen k o d ws ≡ r
+seen_by k o d ws n r e h = ap (λ m. checked (word_of (get_or ws 0 0)) (fault_in d.sizes o.depth m k (position o.last.0 o.last.1) o.phase)) (sym e) ∙ sym h
+
+seen_as : (k : Kind) (o : Open) (d : Draft) (w : ℕ) (ws : List ℕ) (fs : List Frame) → length fs + 1 ≡ o.depth → admitted d.sizes (reading k o d fs) w ≡ seen k o d (w ∷ ws)
+seen_as k o d w ws fs el =
+    let deep : suc (length fs) ≡ o.depth = omega arith in
+    ap (λ n. checked (word_of w) (fault_in d.sizes n (length d.clauses.items) k (position o.last.0 o.last.1) o.phase)) deep
 
 -- the end of the words
 pub stops_none : (k : Kind) (o : Open) (d : Draft) (x : ClauseRecord) (ws : List ℕ) → length ws < 1 → Stops k o d x ws (record { reason = MisplacedWord; place = d.total - length ws })
@@ -40,43 +60,25 @@ unfolding walk
 stops_none k o d x [] h fs ss n e = refl
 stops_none k o d x (w ∷ ws) h fs ss n e = absurd (omega arith)
 
-abbrev told : Kind → Open → Draft → List Frame → List Slot → ℕ → List ℕ → Word → Option Reason → Result Records Refusal
-told k o d fs ss i ws w (Some e) = Err (record { reason = e; place = i })
-told k o d fs ss i ws w None = walk (recorded d.sizes) d.sizes (advanced (reading k o d fs) w) (recorded d.sizes (reading k o d fs) w (records d ss)) (i + 1) ws
-
-goes_told : (k : Kind) (o : Open) (d : Draft) (ws : List ℕ) → 1 ≤ length ws → (fs : List Frame) (ss : List Slot)
-    → goes d (frame_of k o ∷ fs) ss ws
-    ≡ told k o d fs ss (d.total - length ws) (drop 1 ws) (word_of (get_or ws 0 0)) (fault_in d.sizes (suc (length fs)) d.count k o.last o.phase (word_of (get_or ws 0 0)))
-unfolding walk
-goes_told k o d [] h fs ss = absurd (omega arith)
-goes_told k o d (w ∷ ws) h fs ss =
-    let f : Option Reason = fault_in d.sizes (suc (length fs)) d.count k o.last o.phase (word_of w) in
-    elim f as (λ v. (elim v [ Some e ↦ Err (record { reason = e; place = d.total - length (w ∷ ws) }) | None ↦ walk (recorded d.sizes) d.sizes (advanced (reading k o d fs) (word_of w)) (recorded d.sizes (reading k o d fs) (word_of w) (records d ss)) (d.total - length (w ∷ ws) + 1) ws ]) ≡ told k o d fs ss (d.total - length (w ∷ ws)) ws (word_of w) v)
-    [ Some e ↦ refl | None ↦ refl ]
-
-goes_by : (k : Kind) (o : Open) (d : Draft) (ws : List ℕ) → 1 ≤ length ws → (w : Word) → w ≡ word_of (get_or ws 0 0) → (f : Option Reason) → no_fault k o d w ≡ f
-    → (fs : List Frame) (ss : List Slot) → length fs + 1 ≡ o.depth
-    → goes d (frame_of k o ∷ fs) ss ws ≡ told k o d fs ss (d.total - length ws) (drop 1 ws) w f
-goes_by k o d ws h w ew f ef fs ss el =
-    let deep : suc (length fs) ≡ o.depth = omega arith in
-    let e = goes_told k o d ws h fs ss in
-    e ∙ (rw (deep, ← ew, ef) refl)
-
-pub stops_at : (k : Kind) (o : Open) (d : Draft) (x : ClauseRecord) (ws : List ℕ) → 1 ≤ length ws → (w : Word) → w ≡ word_of (get_or ws 0 0) → (y : Reason) → no_fault k o d w ≡ Some y
+pub stops_at : (k : Kind) (o : Open) (d : Draft) (x : ClauseRecord) (ws : List ℕ) → 1 ≤ length ws → (y : Reason) → seen k o d ws ≡ Err y
     → Stops k o d x ws (record { reason = y; place = d.total - length ws })
-stops_at k o d x ws h w ew y ef fs ss n el = goes_by k o d ws h w ew (Some y) ef fs (slot n x ∷ ss) el
+stops_at k o d x [] h y e fs ss n el = absurd (omega arith)
+stops_at k o d x (w ∷ ws) h y e fs ss n el =
+    walk_stop (recorded d.sizes) d.sizes (reading k o d fs) (records d (slot n x ∷ ss)) (d.total - length (w ∷ ws)) w ws y (seen_as k o d w ws fs el ∙ e)
 
 -- a word without a fault
-goes_on : (k : Kind) (o : Open) (d : Draft) (ws : List ℕ) → 1 ≤ length ws → length ws ≤ d.total → (w : Word) → w ≡ word_of (get_or ws 0 0) → no_fault k o d w ≡ None
+goes_on : (k : Kind) (o : Open) (d : Draft) (ws : List ℕ) → 1 ≤ length ws → length ws ≤ d.total → (v : Word) → seen k o d ws ≡ Ok v
     → (fs : List Frame) (ss : List Slot) → length fs + 1 ≡ o.depth
     → goes d (frame_of k o ∷ fs) ss ws
-    ≡ walk (recorded d.sizes) d.sizes (advanced (reading k o d fs) w) (recorded d.sizes (reading k o d fs) w (records d ss)) (d.total - length (drop 1 ws)) (drop 1 ws)
-goes_on k o d ws h hi w ew ef fs ss el =
-    let p : d.total - length ws + 1 ≡ d.total - length (drop 1 ws) = simp length-drop (omega arith) in
-    goes_by k o d ws h w ew None ef fs ss el ∙ ap (λ i. walk (recorded d.sizes) d.sizes (advanced (reading k o d fs) w) (recorded d.sizes (reading k o d fs) w (records d ss)) i (drop 1 ws)) p
+    ≡ walk (recorded d.sizes) d.sizes (advanced (reading k o d fs) v) (recorded d.sizes (reading k o d fs) v (records d ss)) (d.total - length (drop 1 ws)) (drop 1 ws)
+goes_on k o d [] h hi v e fs ss el = absurd (omega arith)
+goes_on k o d (w ∷ ws) h hi v e fs ss el =
+    let p : d.total - length (w ∷ ws) + 1 ≡ d.total - length ws = omega arith in
+    walk_on (recorded d.sizes) d.sizes (reading k o d fs) (records d ss) (d.total - length (w ∷ ws)) w ws v (seen_as k o d w ws fs el ∙ e)
+    ∙ ap (λ i. walk (recorded d.sizes) d.sizes (advanced (reading k o d fs) v) (recorded d.sizes (reading k o d fs) v (records d ss)) i ws) p
 
 -- the same clause is read on from a later place
-module _ (k : Kind) (o o' : Open) (d d' : Draft) (x x' : ClauseRecord) (ws : List ℕ) (m : ℕ) (low : 1 ≤ m) (high : m ≤ length ws) (grows : d.count ≤ d'.count) (sizes : d'.sizes ≡ d.sizes) (total : d'.total ≡ d.total) (deep : o'.depth ≡ o.depth)
+module _ (k : Kind) (o o' : Open) (d d' : Draft) (x x' : ClauseRecord) (ws : List ℕ) (m : ℕ) (low : 1 ≤ m) (high : m ≤ length ws) (grows : (length d.clauses.items) ≤ (length d'.clauses.items)) (sizes : d'.sizes ≡ d.sizes) (total : d'.total ≡ d.total) (deep : o'.depth ≡ o.depth)
     (step : (fs : List Frame) (ss : List Slot) (n : ℕ) → length fs + 1 ≡ o.depth → goes d (frame_of k o ∷ fs) (slot n x ∷ ss) ws ≡ goes d' (frame_of k o' ∷ fs) (slot n x' ∷ ss) (drop m ws)) where
   rest_of_rest : (left : ℕ) → left < length (drop m ws) → drop (length (drop m ws) - left) (drop m ws) ≡ drop (length ws - left) ws
   rest_of_rest left h =
@@ -97,36 +99,31 @@ module _ (k : Kind) (o o' : Open) (d d' : Draft) (x x' : ClauseRecord) (ws : Lis
       }
   later (Err r) e y h = λ fs ss n el. step fs ss n el ∙ h fs ss n (el ∙ sym deep)
 
-abbrev other : Kind → Kind
-other Allow = Deny
-other Deny = Allow
-
-module _ (k : Kind) (o : Open) (d : Draft) (x : ClauseRecord) (ws : List ℕ) (some : 1 ≤ length ws) (ready : Ready o d ws) (w : Word) (ew : w ≡ word_of (get_or ws 0 0)) (clean : no_fault k o d w ≡ None) where
+module _ (k : Kind) (o : Open) (d : Draft) (x : ClauseRecord) (ws : List ℕ) (some : 1 ≤ length ws) (ready : Ready o d ws) (w : Word) (ew : seen k o d ws ≡ Ok w) where
   on_by : (v : Word) → w ≡ v → (fs : List Frame) (ss : List Slot) → length fs + 1 ≡ o.depth
       → goes d (frame_of k o ∷ fs) ss ws
       ≡ walk (recorded d.sizes) d.sizes (advanced (reading k o d fs) v) (recorded d.sizes (reading k o d fs) v (records d ss)) (d.total - length (drop 1 ws)) (drop 1 ws)
   on_by v is fs ss el =
-      goes_on k o d ws some ready.within w ew clean fs ss el
+      goes_on k o d ws some ready.within w ew fs ss el
       ∙ ap (λ y. walk (recorded d.sizes) d.sizes (advanced (reading k o d fs) y) (recorded d.sizes (reading k o d fs) y (records d ss)) (d.total - length (drop 1 ws)) (drop 1 ws)) is
 
-  pub at_except : w ≡ Except → (r : Result ℕ Refusal) (e : Draft) (y : ClauseRecord)
+  at_except : w ≡ Except → (r : Result ℕ Refusal) (e : Draft) (y : ClauseRecord)
       → Reads k (record { phase = Excepting; last = o.last; depth = o.depth }) d x (tail ws) r e y → Reads k o d x ws r e y
   at_except is r e y h =
       later k o (record { phase = Excepting; last = o.last; depth = o.depth }) d d x x ws 1 (omega arith) some (omega arith) refl refl refl (λ fs ss n el. on_by Except is fs (slot n x ∷ ss) el) r e y
       (subst (λ u. Reads k (record { phase = Excepting; last = o.last; depth = o.depth }) d x u r e y) (tail_is ws) h)
 
-  pub at_value : (a v : ℕ) → w ≡ Value a v → (x' : ClauseRecord) → x' ≡ with_value a v x → (last : ℕ) → last ≡ a * 256 + v → (r : Result ℕ Refusal) (e : Draft) (y : ClauseRecord)
-      → Reads k (record { phase = o.phase; last = last; depth = o.depth }) d x' (tail ws) r e y
+  at_value : (a v : ℕ) → w ≡ Value a v → (x' : ClauseRecord) → x' ≡ with_value a v x → (r : Result ℕ Refusal) (e : Draft) (y : ClauseRecord)
+      → Reads k (record { phase = o.phase; last = (a, v); depth = o.depth }) d x' (tail ws) r e y
       → Reads k o d x ws r e y
-  at_value a v is x' ex last el r e y h =
-      let P : ClauseRecord → ℕ → List ℕ → Type 0 = λ q l u. Reads k (record { phase = o.phase; last = l; depth = o.depth }) d q u r e y in
-      let h₁ : P (with_value a v x) last (tail ws) = subst (λ q. P q last (tail ws)) ex h in
-      let h₂ : P (with_value a v x) (a * 256 + v) (tail ws) = subst (λ q. P (with_value a v x) q (tail ws)) el h₁ in
-      let h₃ : P (with_value a v x) (a * 256 + v) (drop 1 ws) = subst (λ q. P (with_value a v x) (a * 256 + v) q) (tail_is ws) h₂ in
-      later k o (record { phase = o.phase; last = a * 256 + v; depth = o.depth }) d d x (with_value a v x)
-      ws 1 (omega arith) some (omega arith) refl refl refl (λ fs ss n el. on_by (Value a v) is fs (slot n x ∷ ss) el) r e y h₃
+  at_value a v is x' ex r e y h =
+      let P : ClauseRecord → List ℕ → Type 0 = λ q u. Reads k (record { phase = o.phase; last = (a, v); depth = o.depth }) d q u r e y in
+      let h₁ : P (with_value a v x) (tail ws) = subst (λ q. P q (tail ws)) ex h in
+      let h₂ : P (with_value a v x) (drop 1 ws) = subst (λ q. P (with_value a v x) q) (tail_is ws) h₁ in
+      later k o (record { phase = o.phase; last = (a, v); depth = o.depth }) d d x (with_value a v x)
+      ws 1 (omega arith) some (omega arith) refl refl refl (λ fs ss n el. on_by (Value a v) is fs (slot n x ∷ ss) el) r e y h₂
 
-  pub at_end : w ≡ End → (y : ClauseRecord) → y ≡ closed d.sizes d.count x → Closes k o d x ws (length (tail ws)) d y
+  at_end : w ≡ End → (y : ClauseRecord) → y ≡ closed d.sizes (length d.clauses.items) x → Closes k o d x ws (length (tail ws)) d y
   at_end is y ey =
       let n : length (tail ws) ≡ length ws - 1 = ap length (tail_is ws) ∙ length-drop 1 ws in
       let one : 1 ≡ length ws - length (tail ws) = omega arith in
@@ -137,63 +134,126 @@ module _ (k : Kind) (o : Open) (d : Draft) (x : ClauseRecord) (ws : List ℕ) (s
         sizes = refl;
         total = refl;
         on = λ fs ss n el. on_by End is fs (slot n x ∷ ss) el
-            ∙ (ap (λ q. goes (stored d n q) (ended fs) ss (drop 1 ws)) (sym ey)
-            ∙ ap (λ i. goes (stored d n y) (ended fs) ss (drop i ws)) one);
+            ∙ ap (λ q. walk (recorded d.sizes) d.sizes (record { open_clauses = ended fs; heads = length d.clauses.items }) (record { opens = ss; clauses = slice_set d.clauses.items n q }) (d.total - length (drop 1 ws)) (drop 1 ws)) (sym ey)
+            ∙ ap (λ h. walk (recorded d.sizes) d.sizes (record { open_clauses = ended fs; heads = h }) (record { opens = ss; clauses = slice_set d.clauses.items n y }) (d.total - length (drop 1 ws)) (drop 1 ws)) (sym (length-set d.clauses.items n y))
+            ∙ ap (λ i. goes (stored d n y) (ended fs) ss (drop i ws)) one;
       }
 
   -- a head: the inner clause, then the rest of this one
   abbrev inner : Open
-  inner = record { phase = Listing; last = 0; depth = o.depth + 1 }
+  inner = just_open o.depth
 
-  at_head_stops : (k' : Kind) → w ≡ Head k' → (r : Refusal) → Stops k' inner (numbered d) (fresh k') (tail ws) r → Stops k o d x ws r
+  on_head : (k' : Kind) → w ≡ Head k' → (fs : List Frame) (ss : List Slot) → length fs + 1 ≡ o.depth
+      → goes d (frame_of k o ∷ fs) ss ws ≡ goes (numbered k' d) (frame_of k' inner ∷ frame_of k o ∷ fs) (slot (length d.clauses.items) (fresh k') ∷ ss) (drop 1 ws)
+  on_head k' is fs ss el =
+      let n : length d.clauses.items + 1 ≡ length (d.clauses.items ++ fresh k' ∷ []) = sym (length-append d.clauses.items (fresh k' ∷ [])) in
+      on_by (Head k') is fs ss el
+      ∙ ap (λ h. walk (recorded d.sizes) d.sizes (record { open_clauses = frame_of k' inner ∷ frame_of k o ∷ fs; heads = h })
+      (record { opens = slot (length d.clauses.items) (fresh k') ∷ ss; clauses = d.clauses.items ++ fresh k' ∷ [] }) (d.total - length (drop 1 ws)) (drop 1 ws)) n
+
+  at_head_stops : (k' : Kind) → w ≡ Head k' → (r : Refusal) → Stops k' inner (numbered k' d) (fresh k') (tail ws) r → Stops k o d x ws r
   at_head_stops k' is r h fs ss n el =
-      let h₁ : Stops k' inner (numbered d) (fresh k') (drop 1 ws) r = subst (λ u. Stops k' inner (numbered d) (fresh k') u r) (tail_is ws) h in
-      on_by (Head k') is fs (slot n x ∷ ss) el ∙ h₁ (frame_of k o ∷ fs) (slot n x ∷ ss) d.count (let z : suc (length fs) + 1 ≡ o.depth + 1 = omega arith in z)
+      let h₁ : Stops k' inner (numbered k' d) (fresh k') (drop 1 ws) r = subst (λ u. Stops k' inner (numbered k' d) (fresh k') u r) (tail_is ws) h in
+      on_head k' is fs (slot n x ∷ ss) el ∙ h₁ (frame_of k o ∷ fs) (slot n x ∷ ss) (length d.clauses.items) (let z : suc (length fs) + 1 ≡ o.depth + 1 = omega arith in z)
 
   abbrev later_open : Open
   later_open = record { phase = Excepted; last = o.last; depth = o.depth }
 
-  at_head_on : (k' : Kind) → w ≡ Head k' → (left : ℕ) (e : Draft) (y : ClauseRecord) → Closes k' inner (numbered d) (fresh k') (tail ws) left e y
-      → (u : List ℕ) → u ≡ drop (length (tail ws) - left) (tail ws) → (r : Result ℕ Refusal) (g : Draft) (q : ClauseRecord) → Reads k later_open (stored e d.count y) x u r g q → Reads k o d x ws r g q
+  at_head_on : (k' : Kind) → w ≡ Head k' → (left : ℕ) (e : Draft) (y : ClauseRecord) → Closes k' inner (numbered k' d) (fresh k') (tail ws) left e y
+      → (u : List ℕ) → u ≡ drop (length (tail ws) - left) (tail ws) → (r : Result ℕ Refusal) (g : Draft) (q : ClauseRecord) → Reads k later_open (stored e (length d.clauses.items) y) x u r g q → Reads k o d x ws r g q
   at_head_on k' is left e y c u eu r g q h =
       let n : length (tail ws) ≡ length ws - 1 = ap length (tail_is ws) ∙ length-drop 1 ws in
       let n' : length (drop 1 ws) ≡ length ws - 1 = length-drop 1 ws in
-      let c₁ : Closes k' inner (numbered d) (fresh k') (drop 1 ws) left e y = subst (λ u. Closes k' inner (numbered d) (fresh k') u left e y) (tail_is ws) c in
+      let c₁ : Closes k' inner (numbered k' d) (fresh k') (drop 1 ws) left e y = subst (λ u. Closes k' inner (numbered k' d) (fresh k') u left e y) (tail_is ws) c in
       let low : left < length (drop 1 ws) = c₁.shorter in
       let m : ℕ = length ws - left in
       let em : 1 + (length (drop 1 ws) - left) ≡ m = omega arith in
       let e₁ : drop (length (drop 1 ws) - left) (drop 1 ws) ≡ drop m ws = drop-drop (length (drop 1 ws) - left) 1 ws ∙ ap (λ i. drop i ws) em in
       let e₂ : u ≡ drop m ws = eu ∙ (ap (λ v. drop (length v - left) v) (tail_is ws) ∙ e₁) in
-      let h₁ : Reads k later_open (stored e d.count y) x (drop m ws) r g q = subst (λ v. Reads k later_open (stored e d.count y) x v r g q) e₂ h in
-      later k o later_open d (stored e d.count y) x x ws m (omega arith) (omega arith) (let q : d.count + 1 ≤ e.count = c₁.grows in omega arith) c₁.sizes c₁.total refl
-      (λ fs ss n el. on_by (Head k') is fs (slot n x ∷ ss) el
-      ∙ (c₁.on (frame_of k o ∷ fs) (slot n x ∷ ss) d.count (let z : suc (length fs) + 1 ≡ o.depth + 1 = omega arith in z) ∙ ap (λ v. goes (stored e d.count y) (frame_of k later_open ∷ fs) (slot n x ∷ ss) v) e₁))
+      let h₁ : Reads k later_open (stored e (length d.clauses.items) y) x (drop m ws) r g q = subst (λ v. Reads k later_open (stored e (length d.clauses.items) y) x v r g q) e₂ h in
+      later k o later_open d (stored e (length d.clauses.items) y) x x ws m (omega arith) (omega arith) (omega (arith, c₁.grows, length-append d.clauses.items (fresh k' ∷ []), length-set e.clauses.items (length d.clauses.items) y)) c₁.sizes c₁.total refl
+      (λ fs ss n el. on_head k' is fs (slot n x ∷ ss) el
+      ∙ (c₁.on (frame_of k o ∷ fs) (slot n x ∷ ss) (length d.clauses.items) (let z : suc (length fs) + 1 ≡ o.depth + 1 = omega arith in z) ∙ ap (λ v. goes (stored e (length d.clauses.items) y) (frame_of k later_open ∷ fs) (slot n x ∷ ss) v) e₁))
       r g q h₁
 
-  head_other : (p : Phase) (j h : Kind) → fault_in d.sizes o.depth d.count j o.last p (Head h) ≡ None → h ≡ other j
-  head_other Listing j h e = absurd (let z : ◌≡◌ {A = ℕ} 0 1 = cc in omega arith)
-  head_other Excepting Allow Allow e = absurd (let z : ◌≡◌ {A = ℕ} 0 1 = cc in omega arith)
-  head_other Excepting Allow Deny e = refl
-  head_other Excepting Deny Allow e = refl
-  head_other Excepting Deny Deny e = absurd (let z : ◌≡◌ {A = ℕ} 0 1 = cc in omega arith)
-  head_other Excepted Allow Allow e = absurd (let z : ◌≡◌ {A = ℕ} 0 1 = cc in omega arith)
-  head_other Excepted Allow Deny e = refl
-  head_other Excepted Deny Allow e = refl
-  head_other Excepted Deny Deny e = absurd (let z : ◌≡◌ {A = ℕ} 0 1 = cc in omega arith)
+refilled : (xs ys : List ClauseRecord) → length ys ≡ length xs → refill (length xs) xs ys ≡ ys
+refilled xs ys e = let le : length ys ≤ length ys = omega arith in rw (← e) (rw take-append-le (take-length ys))
 
-  the_head : (h : Kind) → w ≡ Head h → w ≡ Head (other k)
-  the_head h is = is ∙ ap Head (head_other o.phase k h (ap (no_fault k o d) (sym is) ∙ clean))
+pub along_start : (k : Kind) (depth : ℕ) (start : Draft) (all : List ℕ) (number : ℕ) → Ready (just_open depth) (numbered k start) all → number ≡ length start.clauses.items
+    → (o : Open) → o ≡ just_open depth → (x : ClauseRecord) → x ≡ fresh k → (v : ArrayVec ClauseRecord) → v.items ≡ start.clauses.items ++ x ∷ []
+    → Along k depth start all number o (record { clauses = v; sizes = start.sizes; total = start.total }) x all
+along_start k depth start all number ready given o eo x ex v ev =
+    let first : Along k depth start all number (just_open depth) (numbered k start) (fresh k) all =
+    record { ready = ready; given = given; inside = omega (arith, length-append start.clauses.items (fresh k ∷ [])); on = λ r e y h. h } in
+    let pushed : record { clauses = v; sizes = start.sizes; total = start.total } ≡ numbered k start =
+    ap (λ xs. record { clauses = record { items = xs }; sizes = start.sizes; total = start.total }) (ev ∙ ap (λ y. start.clauses.items ++ y ∷ []) ex) in
+    rw (pushed, eo, ex) first
 
-  module _ (h : Kind) (is : w ≡ Head h) (i : Open) (ei : i ≡ inner) (f : ClauseRecord) (ef : f ≡ fresh (other k)) where
-    pub head_stops : (r : Refusal) → Stops (other k) i (numbered d) f (tail ws) r → Stops k o d x ws r
-    head_stops r b =
-        let b₁ : Stops (other k) inner (numbered d) f (tail ws) r = subst (λ q. Stops (other k) q (numbered d) f (tail ws) r) ei b in
-        let b₂ : Stops (other k) inner (numbered d) (fresh (other k)) (tail ws) r = subst (λ q. Stops (other k) inner (numbered d) q (tail ws) r) ef b₁ in
-        at_head_stops (other k) (the_head h is) r b₂
+-- one word more of the clause
+module _ (k : Kind) (depth : ℕ) (start : Draft) (all : List ℕ) (number : ℕ) (o : Open) (d : Draft) (x : ClauseRecord) (ws : List ℕ) (a : Along k depth start all number o d x ws) where
+  pub along_none : length ws < 1 → Stops k (just_open depth) (numbered k start) (fresh k) all (record { reason = MisplacedWord; place = d.total })
+  along_none h =
+      let p : d.total - length ws ≡ d.total = omega arith in
+      a.on (Err (record { reason = MisplacedWord; place = d.total })) d x (subst (λ i. Stops k o d x ws (record { reason = MisplacedWord; place = i })) p (stops_none k o d x ws h))
 
-    pub head_on : (left : ℕ) (e : Draft) (y : ClauseRecord) → Closes (other k) i (numbered d) f (tail ws) left e y
-        → (u : List ℕ) → u ≡ drop (length (tail ws) - left) (tail ws) → (r : Result ℕ Refusal) (g : Draft) (q : ClauseRecord) → Reads k later_open (stored e d.count y) x u r g q → Reads k o d x ws r g q
-    head_on left e y b =
-        let b₁ : Closes (other k) inner (numbered d) f (tail ws) left e y = subst (λ q. Closes (other k) q (numbered d) f (tail ws) left e y) ei b in
-        let b₂ : Closes (other k) inner (numbered d) (fresh (other k)) (tail ws) left e y = subst (λ q. Closes (other k) inner (numbered d) q (tail ws) left e y) ef b₁ in
-        at_head_on (other k) (the_head h is) left e y b₂
+  module _ (some : 1 ≤ length ws) where
+    pub along_fault : (y : Reason) → seen k o d ws ≡ Err y → Stops k (just_open depth) (numbered k start) (fresh k) all (record { reason = y; place = d.total - length ws })
+    along_fault y ey = a.on (Err (record { reason = y; place = d.total - length ws })) d x (stops_at k o d x ws some y ey)
+
+    module _ (w : Word) (ew : seen k o d ws ≡ Ok w) where
+      fewer : length (tail ws) ≤ d.total
+      fewer = omega (arith, ap length (tail_is ws), length-drop 1 ws, a.ready.within)
+
+      pub along_except : w ≡ Except → Along k depth start all number (record { phase = Excepting; last = o.last; depth = o.depth }) d x (tail ws)
+      along_except is = record {
+        ready = record { room = a.ready.room; deep = a.ready.deep; within = fewer; sized = a.ready.sized };
+        given = a.given;
+        inside = a.inside;
+        on = λ r e y h. a.on r e y (at_except k o d x ws some a.ready w ew is r e y h);
+      }
+
+      pub along_value : (v n : ℕ) → w ≡ Value v n → (x' : ClauseRecord) → x' ≡ with_value v n x → Along k depth start all number (record { phase = o.phase; last = (v, n); depth = o.depth }) d x' (tail ws)
+      along_value v n is x' ex = record {
+        ready = record { room = a.ready.room; deep = a.ready.deep; within = fewer; sized = a.ready.sized };
+        given = a.given;
+        inside = a.inside;
+        on = λ r e y h. a.on r e y (at_value k o d x ws some a.ready w ew v n is x' ex r e y h);
+      }
+
+      -- the record is written through the slice that is lent for it
+      pub along_end : w ≡ End → (y : ClauseRecord) → y ≡ closed d.sizes (length d.clauses.items) x → (lent : List ClauseRecord) → lent ≡ d.clauses.items
+          → Behind k depth start all (Ok (length (tail ws))) (record { clauses = record { items = refill (length d.clauses.items) d.clauses.items (slice_set lent number y) }; sizes = d.sizes; total = d.total })
+      along_end is y ey lent el = (
+        d,
+        (
+          y,
+          (
+            a.on (Ok (length (tail ws))) d y (at_end k o d x ws some a.ready w ew is y ey),
+            ap (λ rs. record { clauses = record { items = refill (length d.clauses.items) d.clauses.items (slice_set rs number y) }; sizes = d.sizes; total = d.total }) el
+                ∙ ap (λ rs. record { clauses = record { items = rs }; sizes = d.sizes; total = d.total }) (refilled d.clauses.items (slice_set d.clauses.items number y) (length-set d.clauses.items number y))
+                ∙ ap (λ n. stored d n y) a.given,
+          ),
+        ),
+      )
+
+      module _ (k' : Kind) (is : w ≡ Head k') where
+        pub along_head_stops : (r : Refusal) (e : Draft) → Behind k' o.depth d (tail ws) (Err r) e → Behind k depth start all (Err r) e
+        along_head_stops r e h = a.on (Err r) d x (at_head_stops k o d x ws some a.ready w ew k' is r h)
+
+        pub along_head : (left : ℕ) (e : Draft) → Behind k' o.depth d (tail ws) (Ok left) e → (u : List ℕ) → u ≡ drop (length (tail ws) - left) (tail ws)
+            → Along k depth start all number (record { phase = Excepted; last = o.last; depth = o.depth }) e x u
+        along_head left e (g, (y, (c, q))) u eu =
+            let same : length (slice_set g.clauses.items (length d.clauses.items) y) ≡ length g.clauses.items = length-set g.clauses.items (length d.clauses.items) y in
+            let one : length (d.clauses.items ++ fresh k' ∷ []) ≡ length d.clauses.items + 1 = length-append d.clauses.items (fresh k' ∷ []) in
+            let m : length u ≤ length (tail ws) = omega (arith, ap length eu, length-drop (length (tail ws) - left) (tail ws)) in
+            subst (λ f. Along k depth start all number (record { phase = Excepted; last = o.last; depth = o.depth }) f x u) (sym q) (record {
+              ready = record {
+                room = omega (arith, c.room);
+                deep = omega (arith, a.ready.deep, c.grows);
+                within = omega (arith, fewer, c.total);
+                sized = subst Sized (sym c.sizes) a.ready.sized;
+              };
+              given = a.given;
+              inside = omega (arith, a.inside, c.grows);
+              on = λ r f z h. a.on r f z (at_head_on k o d x ws some a.ready w ew k' is left g y c u eu r f z h);
+            })

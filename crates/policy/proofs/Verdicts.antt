@@ -1,30 +1,13 @@
 -- What the computed answer, decider and evidence come to, in the words of specs/Verdicts.antt. Assumes nothing.
-use Rattle.std.proofs.Common.{◌≡◌, ℕ, ◌+◌, Bool, true, false, not, sym, refl, ap, ◌∙◌, subst}
+use Rattle.std.proofs.Common.{◌≡◌, ℕ, Bool, true, false, not, sym, refl, ap, ◌∙◌, subst}
 use Rattle.std.proofs.lemmas.Bool.{both_ways}
-use Rattle.lattice.specs.Sets.{has, gather}
 use Rattle.lattice.specs.Schemes.{Scheme}
 use Rattle.policy.specs.Clauses.{Label, Clause, allows, decider, evidence}
 use Rattle.lattice.specs.Schemes.{Lattices}
-use Rattle.policy.specs.Verdicts.{Minimal, Just, left_after}
-use Rattle.policy.proofs.Sets.{gather_taken, gather_passed}
+use Rattle.policy.specs.Verdicts.{Minimal, Just}
 use Rattle.policy.proofs.Antitone.{allows_antitone, allows_subset}
-use Rattle.policy.proofs.Evidence.{evidence_none, evidence_gathered, evidence_within, evidence_denied, evidence_needed}
+use Rattle.policy.proofs.Evidence.{evidence_none, evidence_within, evidence_denied, evidence_needed}
 use Rattle.policy.proofs.Rules.{allows_derived, allows_sound, denies_derived, denies_sound}
-
--- ---- one turn of the loop that leaves data types out
-
-pub left_taken : (s : Scheme) (c : Clause) (t : Label) (v left next : ℕ) → has t.types v ≡ true →
-    left ≡ gather (left_after s c t) t.types t.types v → next ≡ left_after s c t left v → next ≡ gather (left_after s c t) t.types t.types (v + 1)
-left_taken s c t v left next holds before is =
-    is ∙ ap (λ (x : ℕ). left_after s c t x v) before ∙ sym (gather_taken (left_after s c t) t.types t.types v holds)
-
-pub left_passed : (s : Scheme) (c : Clause) (t : Label) (v left next : ℕ) → has t.types v ≡ false →
-    left ≡ gather (left_after s c t) t.types t.types v → next ≡ left → next ≡ gather (left_after s c t) t.types t.types (v + 1)
-left_passed s c t v left next absent before is = is ∙ before ∙ sym (gather_passed (left_after s c t) t.types t.types v absent)
-
-pub left_all : (s : Scheme) (c : Clause) (t : Label) (v left : ℕ) → allows s c t ≡ false → v ≡ 64 →
-    left ≡ gather (left_after s c t) t.types t.types v → left ≡ evidence s c t
-left_all s c t v left denied all before = before ∙ ap (gather (left_after s c t) t.types t.types) all ∙ sym (evidence_gathered s c t denied)
 
 -- ---- the verdict
 

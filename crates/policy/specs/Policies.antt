@@ -1,10 +1,10 @@
 -- What a policy in memory means, and what reading words does to it. Assumes nothing.
 --   Policy      the sizes that a policy is for, and its clause
---   policy_of   what a policy in memory means; records past its count count for nothing
+--   policy_of   what a policy in memory means
 --   starting    the policy before any words are read: one DENY without values, for lattices of two values
 --   Spells      the words are those of this clause, and of no other
 --   Takes       what reading words does
-use Rattle.std.specs.Prelude.{◌≡◌, ℕ, List, take, Some, None, Ok, Err, Result, ◌≢◌}
+use Rattle.std.specs.Prelude.{◌≡◌, ℕ, List, Some, None, Ok, Err, Result, ◌≢◌}
 use Rattle.lattice.specs.declared.sizes.Sizes.{Sizes}
 use Rattle.refusals.specs.declared.refusal.Refusal.{Refusal}
 use Rattle.policy.specs.declared.policy.Policy.{Policy as Held}
@@ -18,7 +18,7 @@ pub record Policy : Type 0 where
   pub clause : Clause
 
 abbrev pub policy_of : Held → Policy
-policy_of p = record { sizes = p.sizes; clause = tree (take p.count p.clauses) 0 }
+policy_of p = record { sizes = p.sizes; clause = tree p.clauses.items 0 }
 
 abbrev pub twos : Sizes
 twos = record { store = 2; purpose = 2; role = 2; types = 2 }

@@ -1,6 +1,7 @@
 -- What the reader of a clause does. Assumes nothing.
-use Rattle.std.specs.Prelude.{◌≡◌, ℕ, ◌+◌, ◌-◌, ◌<◌, ◌≤◌, List, [], ◌∷◌, length, drop, Ok, Err, Result, slice_set}
+use Rattle.std.specs.Prelude.{◌≡◌, ℕ, ◌+◌, ◌-◌, ◌<◌, ◌≤◌, List, [], ◌∷◌, ◌++◌, length, drop, Some, None, Option, Ok, Err, Result, slice_set}
 use Rattle.policy.specs.declared.clause.Kind.{Kind}
+use Rattle.policy.specs.declared.draft.Phase.TheVariants.{Listing}
 use Rattle.policy.specs.declared.draft.Open.{Open}
 use Rattle.policy.specs.declared.clause.ClauseRecord.{ClauseRecord}
 use Rattle.policy.specs.declared.draft.Draft.{Draft}
@@ -8,20 +9,19 @@ use Rattle.refusals.specs.declared.refusal.Reason.{Reason}
 use Rattle.refusals.specs.declared.refusal.Reason.TheVariants.{MisplacedWord, BadWord}
 use Rattle.refusals.specs.declared.refusal.Refusal.{Refusal}
 use Rattle.policy.specs.declared.word.Word.{Word}
-use Rattle.policy.specs.declared.word.Word.TheVariants.{Head, Value, Except, End, NoWord}
-use Rattle.policy.specs.Words.{Frame, ended}
-use Rattle.policy.specs.Walk.{walk, Slot, Records, recorded}
+use Rattle.policy.specs.Words.{Frame, position, ended}
+use Rattle.policy.specs.Walk.{walk, Slot, Records, recorded, fresh}
 use Rattle.policy.specs.Sized.{Sized}
 
 -- the clauses that are open have numbers, and no more words are left than there are
 pub record Ready (o : Open) (d : Draft) (ws : List ℕ) : Type 0 where
-  pub room : d.count ≤ 256
-  pub deep : o.depth ≤ d.count
+  pub room : length d.clauses.items ≤ 256
+  pub deep : o.depth ≤ length d.clauses.items
   pub within : length ws ≤ d.total
   pub sized : Sized d.sizes
 
 abbrev pub frame_of : Kind → Open → Frame
-frame_of k o = record { kind = k; phase = o.phase; last = o.last }
+frame_of k o = record { kind = k; phase = o.phase; last = position o.last.0 o.last.1 }
 
 abbrev pub slot : ℕ → ClauseRecord → Slot
 slot n x = record { number = n; filling = x }
@@ -29,21 +29,21 @@ slot n x = record { number = n; filling = x }
 -- what is made of the words with these frames open, whose records are these
 abbrev pub goes : Draft → List Frame → List Slot → List ℕ → Result Records Refusal
 goes d fs ss ws =
-    walk (recorded d.sizes) d.sizes (record { open_clauses = fs; heads = d.count }) (record { opens = ss; clauses = d.clauses; count = d.count }) (d.total - length ws) ws
+    walk (recorded d.sizes) d.sizes (record { open_clauses = fs; heads = length d.clauses.items }) (record { opens = ss; clauses = d.clauses.items }) (d.total - length ws) ws
 
 -- the draft with x as record number n
 abbrev pub stored : Draft → ℕ → ClauseRecord → Draft
-stored d n x = record { clauses = slice_set d.clauses n x; count = d.count; sizes = d.sizes; total = d.total }
+stored d n x = record { clauses = record { items = slice_set d.clauses.items n x }; sizes = d.sizes; total = d.total }
 
--- the draft with one more number given
-abbrev pub numbered : Draft → Draft
-numbered d = record { clauses = d.clauses; count = d.count + 1; sizes = d.sizes; total = d.total }
+-- the draft with one more record, that of a clause of kind k whose head alone is read
+abbrev pub numbered : Kind → Draft → Draft
+numbered k d = record { clauses = record { items = d.clauses.items ++ fresh k ∷ [] }; sizes = d.sizes; total = d.total }
 
 -- the clause whose record was x is read to its end: its record is y, and `left` words are left
 pub record Closes (k : Kind) (o : Open) (d : Draft) (x : ClauseRecord) (ws : List ℕ) (left : ℕ) (e : Draft) (y : ClauseRecord) : Type 0 where
   pub shorter : left < length ws
-  pub grows : d.count ≤ e.count
-  pub room : e.count ≤ 256
+  pub grows : length d.clauses.items ≤ length e.clauses.items
+  pub room : length e.clauses.items ≤ 256
   pub sizes : e.sizes ≡ d.sizes
   pub total : e.total ≡ d.total
   pub on : (fs : List Frame) (ss : List Slot) (n : ℕ) → length fs + 1 ≡ o.depth
@@ -58,15 +58,25 @@ abbrev pub Reads : Kind → Open → Draft → ClauseRecord → List ℕ → Res
 Reads k o d x ws (Ok left) e y = Closes k o d x ws left e y
 Reads k o d x ws (Err r) e y = Stops k o d x ws r
 
+-- a clause whose head alone is read, inside `depth` others
+abbrev pub just_open : ℕ → Open
+just_open depth = record { phase = Listing; last = (0, 0); depth = depth + 1 }
+
+-- a clause inside `depth` others is given the next number and read from the word behind its head on, and its record is stored
+abbrev pub Behind : Kind → ℕ → Draft → List ℕ → Result ℕ Refusal → Draft → Type 0
+Behind k depth d ws (Ok left) e =
+    (g : Draft) × ((y : ClauseRecord) × (Reads k (just_open depth) (numbered k d) (fresh k) ws (Ok left) g y × (e ≡ stored g (length d.clauses.items) y)))
+Behind k depth d ws (Err r) e = Stops k (just_open depth) (numbered k d) (fresh k) ws r
+
 -- the words of a policy, from its first on
 abbrev pub Firsts : Draft → List ℕ → Result (Unit {0}) Refusal → Draft → Type 0
-Firsts d ws (Ok _) e = (goes d [] [] ws ≡ Ok (record { opens = []; clauses = e.clauses; count = e.count })) × (e.sizes ≡ d.sizes)
+Firsts d ws (Ok _) e = (goes d [] [] ws ≡ Ok (record { opens = []; clauses = e.clauses.items })) × (e.sizes ≡ d.sizes)
 Firsts d ws (Err x) e = goes d [] [] ws ≡ Err x
 
 -- the first clause of the words, from its head to its end
 pub record Begins (d : Draft) (ws : List ℕ) (left : ℕ) (e : Draft) : Type 0 where
   pub shorter : left < length ws
-  pub some : 1 ≤ e.count
+  pub some : 1 ≤ length e.clauses.items
   pub sizes : e.sizes ≡ d.sizes
   pub total : e.total ≡ d.total
   pub on : goes d [] [] ws ≡ goes e [] [] (drop (length ws - left) ws)
@@ -75,10 +85,7 @@ abbrev pub Begun : Draft → List ℕ → Result ℕ Refusal → Draft → Type 
 Begun d ws (Ok left) e = Begins d ws left e
 Begun d ws (Err x) e = goes d [] [] ws ≡ Err x
 
--- why a word that is no head, or no first one, is declined outside every clause
-abbrev pub stray_reason : Word → Reason
-stray_reason (Head k) = MisplacedWord
-stray_reason (Value a c) = MisplacedWord
-stray_reason Except = MisplacedWord
-stray_reason End = MisplacedWord
-stray_reason NoWord = BadWord
+-- why what is no head, or not the first one, is declined outside every clause
+abbrev pub stray_reason : Option Word → Reason
+stray_reason None = BadWord
+stray_reason (Some w) = MisplacedWord

@@ -1,14 +1,12 @@
 -- Clauses as records in a row. The exceptions of a clause are the records from its number + 1 on, each next one at the end of the one
 -- before, up to its own end. Assumes nothing.
-use Rattle.std.specs.Prelude.{◌≡◌, ℕ, ◌+◌, ◌<◌, ◌≤◌, Bool, true, false, cond, List, [], ◌∷◌, length, slice_index_or, ◌==◌, nat_lt}
+use Rattle.std.specs.Prelude.{◌≡◌, ℕ, ◌+◌, ◌<◌, ◌≤◌, Bool, true, false, cond, not, Some, None, Option, List, [], ◌∷◌, length, slice_index_or, ◌==◌, nat_lt}
 use Rattle.std.specs.Bool.{beq}
 use Rattle.lattice.specs.Schemes.{Scheme}
 use Rattle.policy.specs.Clauses.{Label, Clause, Clauses, allow, deny, none, more, allows, all_allow, some_allows, decider, first_denying, first_allowing}
 use Rattle.policy.specs.declared.clause.Kind.{Kind}
 use Rattle.policy.specs.declared.clause.Kind.TheVariants.{Allow, Deny}
 use Rattle.policy.specs.declared.clause.ClauseRecord.{ClauseRecord}
-use Rattle.policy.specs.declared.deciding.Opening.{Opening}
-use Rattle.policy.specs.declared.deciding.Opening.TheVariants.{Decides, Asks}
 
 abbrev pub is_allow : Kind → Bool
 is_allow Allow = true
@@ -58,9 +56,9 @@ exceptions s usual es t = cond usual (all_allow s es t) (some_allows s es t)
 abbrev pub first_other : Scheme → Bool → ℕ → Clauses → Label → ℕ
 first_other s usual n es t = cond usual (first_denying s n es t) (first_allowing s n es t)
 
--- what a clause does with a label before its exceptions: it decides, or it asks them about a label
-abbrev pub Opens : Scheme → ClauseRecord → Label → Opening → Type 0
-Opens s r t (Decides b) = (es : Clauses) (n : ℕ) → (allows s (begun r es) t ≡ b) × (decider s n (begun r es) t ≡ n)
-Opens s r t (Asks u) =
+-- what a clause asks its exceptions about a label. Where it asks them nothing it decides itself, otherwise than it usually does
+abbrev pub Opens : Scheme → ClauseRecord → Label → Option Label → Type 0
+Opens s r t None = (es : Clauses) (n : ℕ) → (allows s (begun r es) t ≡ not (is_allow r.kind)) × (decider s n (begun r es) t ≡ n)
+Opens s r t (Some u) =
     (es : Clauses) (n : ℕ) → (allows s (begun r es) t ≡ exceptions s (is_allow r.kind) es u) ×
     (decider s n (begun r es) t ≡ cond (beq (exceptions s (is_allow r.kind) es u) (is_allow r.kind)) n (first_other s (is_allow r.kind) (n + 1) es u))

@@ -1,5 +1,5 @@
 -- Reading word by word with something that is made on the way. Assumes nothing.
-use Rattle.std.specs.Prelude.{ℕ, ◌+◌, ◌^◌, cond, List, [], ◌∷◌, Some, None, Ok, Err, Result, ◌==◌, bit_or, slice_set}
+use Rattle.std.specs.Prelude.{ℕ, ◌+◌, ◌^◌, cond, List, [], ◌∷◌, ◌++◌, Ok, Err, Result, ◌==◌, bit_or, slice_set}
 use Rattle.policy.specs.declared.label.Label.{Label}
 use Rattle.lattice.specs.declared.sizes.Sizes.{Sizes}
 use Rattle.policy.specs.declared.clause.Kind.{Kind}
@@ -7,15 +7,14 @@ use Rattle.policy.specs.declared.clause.ClauseRecord.{ClauseRecord}
 use Rattle.refusals.specs.declared.refusal.Reason.TheVariants.{MisplacedWord}
 use Rattle.refusals.specs.declared.refusal.Refusal.{Refusal}
 use Rattle.policy.specs.declared.word.Word.{Word}
-use Rattle.policy.specs.declared.word.Word.TheVariants.{Head, Value, Except, End, NoWord}
-use Rattle.policy.specs.Decode.{word_of}
+use Rattle.policy.specs.declared.word.Word.TheVariants.{Head, Value, Except, End}
 use Rattle.policy.specs.Labels.{filled}
-use Rattle.policy.specs.Words.{Reading, fault, advanced}
+use Rattle.policy.specs.Words.{Reading, admitted, advanced}
 
 -- what is made of the words from number i on, or where they are declined
 unfoldable pub walk : {X : Type 0} → (Reading → Word → X → X) → Sizes → Reading → X → ℕ → List ℕ → Result X Refusal
 walk f z r x i [] = elim r.open_clauses [ [] ↦ cond (r.heads == 0) (Err (record { reason = MisplacedWord; place = i })) (Ok x) | f ∷ fs ↦ Err (record { reason = MisplacedWord; place = i }) ]
-walk f z r x i (w ∷ ws) = elim (fault z r (word_of w)) [ Some e ↦ Err (record { reason = e; place = i }) | None ↦ walk f z (advanced r (word_of w)) (f r (word_of w) x) (i + 1) ws ]
+walk f z r x i (w ∷ ws) = elim (admitted z r w) [ Err e ↦ Err (record { reason = e; place = i }) | Ok v ↦ walk f z (advanced r v) (f r v x) (i + 1) ws ]
 
 -- the list l with value c of attribute a
 abbrev pub listed : ℕ → ℕ → Label → Label
@@ -42,11 +41,10 @@ pub record Slot : Type 0 where
   pub number : ℕ
   pub filling : ClauseRecord
 
--- the open clauses, the records of those that ended, and how many numbers are given
+-- the open clauses, and a record for each head: that of an open clause has no list and no end yet
 pub record Records : Type 0 where
   pub opens : List Slot
   pub clauses : List ClauseRecord
-  pub count : ℕ
 
 abbrev pub top_with : ℕ → ℕ → List Slot → List Slot
 top_with a c [] = []
@@ -61,8 +59,7 @@ rest_of [] = []
 rest_of (s ∷ ss) = ss
 
 abbrev pub recorded : Sizes → Reading → Word → Records → Records
-recorded z r (Head k) x = record { opens = record { number = r.heads; filling = fresh k } ∷ x.opens; clauses = x.clauses; count = r.heads + 1 }
-recorded z r (Value a c) x = record { opens = top_with a c x.opens; clauses = x.clauses; count = x.count }
+recorded z r (Head k) x = record { opens = record { number = r.heads; filling = fresh k } ∷ x.opens; clauses = x.clauses ++ fresh k ∷ [] }
+recorded z r (Value a c) x = record { opens = top_with a c x.opens; clauses = x.clauses }
 recorded z r Except x = x
-recorded z r End x = record { opens = rest_of x.opens; clauses = top_ended z r.heads x.opens x.clauses; count = x.count }
-recorded z r NoWord x = x
+recorded z r End x = record { opens = rest_of x.opens; clauses = top_ended z r.heads x.opens x.clauses }

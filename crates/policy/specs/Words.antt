@@ -1,5 +1,5 @@
 -- Policies as words of 32 bits: which rows of words are a policy, which clause they spell, and where others are declined. Assumes nothing.
-use Rattle.std.specs.Prelude.{◌≡◌, ℕ, zero, suc, ◌+◌, ◌*◌, ◌%◌, ◌^◌, ◌≤◌, max, Bool, true, false, cond, ◌&&◌, ◌||◌, T, ◌↔◌, List, [], ◌∷◌, ◌++◌, length, Some, None, Option, ◌==◌, nat_le, nat_lt}
+use Rattle.std.specs.Prelude.{◌≡◌, ℕ, zero, suc, ◌+◌, ◌*◌, ◌%◌, ◌^◌, ◌≤◌, max, Bool, true, false, cond, ◌&&◌, ◌||◌, T, ◌↔◌, List, [], ◌∷◌, ◌++◌, length, Some, None, Option, Ok, Err, Result, ◌==◌, nat_le, nat_lt}
 use Rattle.policy.specs.declared.label.Label.{Label}
 use Rattle.lattice.specs.declared.sizes.Sizes.{Sizes}
 use Rattle.policy.specs.declared.clause.Kind.{Kind}
@@ -8,7 +8,7 @@ use Rattle.refusals.specs.declared.refusal.Reason.{Reason}
 use Rattle.refusals.specs.declared.refusal.Reason.TheVariants.{WordCount, BadWord, MisplacedWord, SameKind, BadValue, NotRising, TooNested}
 use Rattle.refusals.specs.declared.refusal.Refusal.{Refusal}
 use Rattle.policy.specs.declared.word.Word.{Word}
-use Rattle.policy.specs.declared.word.Word.TheVariants.{Head, Value, Except, End, NoWord}
+use Rattle.policy.specs.declared.word.Word.TheVariants.{Head, Value, Except, End}
 use Rattle.policy.specs.declared.draft.Phase.{Phase}
 use Rattle.policy.specs.declared.draft.Phase.TheVariants.{Listing, Excepting, Excepted}
 use Rattle.lattice.specs.Sets.{has}
@@ -18,6 +18,10 @@ use Rattle.policy.specs.Decode.{word_of}
 
 abbrev pub size_of : Sizes → ℕ → ℕ
 size_of z a = cond (a == 0) z.store (cond (a == 1) z.purpose (cond (a == 2) z.role z.types))
+
+-- the order in which values stand: by attribute, then by code
+abbrev pub position : ℕ → ℕ → ℕ
+position a c = a * 256 + c
 
 -- Spelling: a head, the values in rising order, EXCEPT and the exceptions where there are any, END.
 -- Here the list of a clause is as written: the empty set is an attribute left out.
@@ -134,10 +138,9 @@ head_fault opens heads k h =
 abbrev pub value_fault : Sizes → ℕ → ℕ → ℕ → Option Reason
 value_fault z last a c =
     cond (nat_le 4 a || (c == 0 || nat_le (size_of z a) c)) (Some BadValue)
-    (cond (nat_le (a * 256 + c) last) (Some NotRising) None)
+    (cond (nat_le (position a c) last) (Some NotRising) None)
 
 abbrev pub fault_in : Sizes → ℕ → ℕ → Kind → ℕ → Phase → Word → Option Reason
-fault_in z opens heads k last p NoWord = Some BadWord
 fault_in z opens heads k last Listing (Head h) = Some MisplacedWord
 fault_in z opens heads k last Listing (Value a c) = value_fault z last a c
 fault_in z opens heads k last Listing Except = None
@@ -153,7 +156,6 @@ fault_in z opens heads k last Excepted End = None
 
 -- outside every clause only the first head may stand
 abbrev pub fault_outside : ℕ → Word → Option Reason
-fault_outside heads NoWord = Some BadWord
 fault_outside heads (Head k) = cond (heads == 0) None (Some MisplacedWord)
 fault_outside heads (Value a c) = Some MisplacedWord
 fault_outside heads Except = Some MisplacedWord
@@ -161,6 +163,14 @@ fault_outside heads End = Some MisplacedWord
 
 abbrev pub fault : Sizes → Reading → Word → Option Reason
 fault z r w = elim r.open_clauses [ [] ↦ fault_outside r.heads w | f ∷ fs ↦ fault_in z (length (f ∷ fs)) r.heads f.kind f.last f.phase w ]
+
+-- the word, where there is one and it has no fault, or why it is declined
+abbrev pub checked : Option Word → (Word → Option Reason) → Result Word Reason
+checked None f = Err BadWord
+checked (Some w) f = elim (f w) [ Some e ↦ Err e | None ↦ Ok w ]
+
+abbrev pub admitted : Sizes → Reading → ℕ → Result Word Reason
+admitted z r w = checked (word_of w) (fault z r)
 
 abbrev pub opened : Kind → Frame
 opened k = record { kind = k; phase = Listing; last = 0 }
@@ -176,17 +186,16 @@ ended (f ∷ fs) = in_phase Excepted f ∷ fs
 abbrev pub advanced : Reading → Word → Reading
 advanced r (Head k) = record { open_clauses = opened k ∷ r.open_clauses; heads = r.heads + 1 }
 advanced r (Value a c) = record {
-  open_clauses = elim r.open_clauses [ [] ↦ [] | f ∷ fs ↦ record { kind = f.kind; phase = f.phase; last = a * 256 + c } ∷ fs ];
+  open_clauses = elim r.open_clauses [ [] ↦ [] | f ∷ fs ↦ record { kind = f.kind; phase = f.phase; last = position a c } ∷ fs ];
   heads = r.heads;
 }
 advanced r Except = record { open_clauses = elim r.open_clauses [ [] ↦ [] | f ∷ fs ↦ in_phase Excepting f ∷ fs ]; heads = r.heads }
 advanced r End = record { open_clauses = elim r.open_clauses [ [] ↦ [] | f ∷ fs ↦ ended fs ]; heads = r.heads }
-advanced r NoWord = r
 
 -- the first fault from word number i on, with its place; at the end every clause must be closed
 unfoldable pub fault_from : Sizes → Reading → ℕ → List ℕ → Option Refusal
 fault_from z r i [] = elim r.open_clauses [ [] ↦ cond (r.heads == 0) (Some (record { reason = MisplacedWord; place = i })) None | f ∷ fs ↦ Some (record { reason = MisplacedWord; place = i }) ]
-fault_from z r i (w ∷ ws) = elim (fault z r (word_of w)) [ Some e ↦ Some (record { reason = e; place = i }) | None ↦ fault_from z (advanced r (word_of w)) (i + 1) ws ]
+fault_from z r i (w ∷ ws) = elim (admitted z r w) [ Err e ↦ Some (record { reason = e; place = i }) | Ok v ↦ fault_from z (advanced r v) (i + 1) ws ]
 
 abbrev pub nothing_read : Reading
 nothing_read = record { open_clauses = []; heads = 0 }

@@ -4,8 +4,9 @@ ghost use Rattle.policy.specs.Records.{is_allow};
 
 use crate::label::Label;
 
-#[derive(Clone, Copy, PartialEq, Eq, Debug)]
+#[derive(Clone, Copy, PartialEq, Eq, Debug, Default)]
 pub(crate) enum Kind {
+    #[default]
     Allow,
     Deny,
 }
@@ -15,14 +16,11 @@ impl Kind {
     pub(crate) fn is_allow(self) -> bool
         ensures { result ≡ is_allow self }
     {
-        match self {
-            Kind::Allow => true,
-            Kind::Deny => false,
-        }
+        self == Kind::Allow
     }
 }
 
-#[derive(Clone, Copy)]
+#[derive(Clone, Copy, Default)]
 pub(crate) struct ClauseRecord {
     pub(crate) kind: Kind,
     pub(crate) list: Label,

@@ -7,19 +7,24 @@ ghost use Rattle.policy.specs.Verdicts.{left_after};
 use crate::clause::{ClauseRecord, Kind};
 use crate::label::Label;
 use crate::vocabulary::Vocabulary;
-use lattice::bitset::{contains, remove};
-
-// What a clause does with a label before its exceptions: it decides, or it asks them about a label.
-enum Opening {
-    Decides(bool),
-    Asks(Label),
-}
+use lattice::bitset::{contains, remove, values};
 
 /// The answer of a clause, and the number of the clause that it rests on.
+// A clause decides whether the label passes or not, so an enum of the two answers would hold the number twice.
 #[derive(Clone, Copy, PartialEq, Eq, Debug)]
 pub struct Decision {
     pub passed: bool,
     pub clause: usize,
+}
+
+/// A clause by its number among the records of a policy, and the lattices in which it is asked.
+#[derive(Drop)]
+pub(crate) struct Asked<'a, V> {
+    pub(crate) scheme: &'a V,
+    pub(crate) records: &'a [ClauseRecord],
+    pub(crate) number: usize,
+    ghost nested: { ∥ Nested records.now ∥₁ },
+    ghost inside: { number < length records.now },
 }
 
 // Whether the bottom stands in some attribute.
@@ -32,118 +37,78 @@ fn meets_nothing(label: Label) -> bool
         || contains(label.types, 0)
 }
 
-fn open<V: Vocabulary>(scheme: &V, clause: ClauseRecord, label: Label) -> Opening
+// The label that a clause asks its exceptions about. Where there is none it decides itself, and not as is usual for its kind.
+fn opened<V: Vocabulary>(scheme: &V, clause: ClauseRecord, label: Label) -> Option<Label>
     ensures { Opens (V.orders scheme.now) clause label result }
 {
     match clause.kind {
-        Kind::Allow => {
-            if scheme.covers(label, clause.list) {
-                Opening::Asks(label)
-            } else {
-                Opening::Decides(false)
-            }
-        }
+        Kind::Allow => scheme.covers(label, clause.list).then_some(label),
         Kind::Deny => {
             let common = scheme.narrow(label, clause.list);
-            if meets_nothing(common) {
-                Opening::Decides(true)
-            } else {
-                Opening::Asks(common)
+            (!meets_nothing(common)).then_some(common)
+        }
+    }
+}
+
+impl<V: Vocabulary> Asked<'_, V> {
+    // What the clause answers.
+    pub(crate) fn decide(&self, label: Label) -> Decision
+        ensures passed { result.passed ≡ allows (V.orders self.now.scheme.now) (tree self.now.records.now self.now.number) label }
+        ensures clause { result.clause ≡ decider (V.orders self.now.scheme.now) self.now.number (tree self.now.records.now self.now.number) label }
+    {
+        let own = self.records[self.number];
+        let usual = own.kind.is_allow();
+        let Some(asked) = opened(self.scheme, own, label) else {
+            return Decision {
+                passed: !usual,
+                clause: self.number,
+            };
+        };
+        let mut next = self.number + 1;
+        while next < usize::from(own.end) {
+            let exception = Asked {
+                scheme: self.scheme,
+                records: self.records,
+                number: next,
+            };
+            let decision = exception.decide(asked);
+            if decision.passed != usual {
+                return decision;
             }
+            next = usize::from(self.records[next].end);
+        }
+        Decision {
+            passed: usual,
+            clause: self.number,
         }
     }
-}
 
-// What the clause with the number `number` answers.
-pub(crate) fn decide<V: Vocabulary>(
-    scheme: &V,
-    records: &[ClauseRecord],
-    number: usize,
-    label: Label,
-) -> Decision
-    requires nested { Nested records.now }
-    requires inside { number < length records.now }
-    ensures passed { result.passed ≡ allows (V.orders scheme.now) (tree records.now number) label }
-    ensures clause { result.clause ≡ decider (V.orders scheme.now) number (tree records.now number) label }
-{
-    let own = records[number];
-    let asked = match open(scheme, own, label) {
-        Opening::Decides(passed) => return Decision {
-            passed,
-            clause: number,
-        },
-        Opening::Asks(asked) => asked,
-    };
-    let usual = own.kind.is_allow();
-    let mut next = number + 1;
-    while next < usize::from(own.end) {
-        let exception = decide(scheme, records, next, asked);
-        if exception.passed != usual {
-            return exception;
-        }
-        next = usize::from(records[next].end);
+    // Whether the clause allows `label`.
+    fn allows(&self, label: Label) -> bool
+        ensures { result ≡ allows (V.orders self.now.scheme.now) (tree self.now.records.now self.now.number) label }
+    {
+        self.decide(label).passed
     }
-    Decision {
-        passed: usual,
-        clause: number,
-    }
-}
 
-// Whether the clause with the number `number` allows `label`.
-pub(crate) fn allows<V: Vocabulary>(
-    scheme: &V,
-    records: &[ClauseRecord],
-    number: usize,
-    label: Label,
-) -> bool
-    requires nested { Nested records.now }
-    requires inside { number < length records.now }
-    ensures { result ≡ allows (V.orders scheme.now) (tree records.now number) label }
-{
-    decide(scheme, records, number, label).passed
-}
-
-// `left` without `value`, where `label` with that as its data types is still denied.
-fn leave_out<V: Vocabulary>(
-    scheme: &V,
-    records: &[ClauseRecord],
-    number: usize,
-    label: Label,
-    left: u64,
-    value: u8,
-) -> u64
-    requires nested { Nested records.now }
-    requires inside { number < length records.now }
-    ensures { result ≡ left_after (V.orders scheme.now) (tree records.now number) label left value }
-{
-    let types = remove(left, value);
-    let fewer = Label { types, ..label };
-    if allows(scheme, records, number, fewer) {
-        left
-    } else {
-        types
-    }
-}
-
-// The data types that a denial of `label` rests on.
-pub(crate) fn evidence<V: Vocabulary>(
-    scheme: &V,
-    records: &[ClauseRecord],
-    number: usize,
-    label: Label,
-) -> u64
-    requires nested { Nested records.now }
-    requires inside { number < length records.now }
-    ensures { result ≡ evidence (V.orders scheme.now) (tree records.now number) label }
-{
-    if allows(scheme, records, number, label) {
-        return 0;
-    }
-    let mut left = label.types;
-    for v in 0..64u8 {
-        if contains(label.types, v) {
-            left = leave_out(scheme, records, number, label, left, v);
+    // `left` without `value`, where `label` with that as its data types is still denied.
+    fn leave_out(&self, label: Label, left: u64, value: u8) -> u64
+        ensures { result ≡ left_after (V.orders self.now.scheme.now) (tree self.now.records.now self.now.number) label left value }
+    {
+        let types = remove(left, value);
+        if self.allows(Label { types, ..label }) {
+            left
+        } else {
+            types
         }
     }
-    left
+
+    // The data types that a denial of `label` rests on.
+    pub(crate) fn evidence(&self, label: Label) -> u64
+        ensures { result ≡ evidence (V.orders self.now.scheme.now) (tree self.now.records.now self.now.number) label }
+    {
+        if self.allows(label) {
+            return 0;
+        }
+        values(label.types).fold(label.types, |left, v| self.leave_out(label, left, v))
+    }
 }

@@ -1,5 +1,6 @@
 //! A policy whose words are being read.
 use crate::clause::ClauseRecord;
+use arrayvec::ArrayVec;
 use lattice::Sizes;
 
 /// Where the reading of a clause stands: among its values, right after EXCEPT, or after an exception.
@@ -10,19 +11,18 @@ pub(crate) enum Phase {
     Excepted,
 }
 
-/// How far a clause is read: its phase, the last value as attribute * 256 + value, and how many clauses are open with it.
+/// How far a clause is read: its phase, the last value behind its attribute's number, and how many clauses are open with it.
 #[derive(Clone, Copy)]
 pub(crate) struct Open {
     pub(crate) phase: Phase,
-    pub(crate) last: u16,
+    pub(crate) last: (u8, u8),
     pub(crate) depth: usize,
 }
 
 /// The records of a policy whose words are being read; `total` is the number of all its words.
 #[derive(Drop)]
 pub(crate) struct Draft {
-    pub(crate) clauses: [ClauseRecord; 256],
-    pub(crate) count: usize,
+    pub(crate) clauses: ArrayVec<ClauseRecord, 256>,
     pub(crate) sizes: Sizes,
     pub(crate) total: usize,
 }

@@ -1,12 +1,14 @@
 //! Why a word cannot stand where it does.
 ghost use Rattle.std.specs.Prelude.{◌≡◌};
-ghost use Rattle.policy.specs.Words.{size_of, fault_in, head_fault, value_fault, same_kind};
+ghost use Rattle.policy.specs.Decode.{word_of};
+ghost use Rattle.policy.specs.Words.{size_of, position, checked, fault_in, head_fault, value_fault};
 
 use crate::clause::Kind;
 use crate::draft::{Open, Phase};
-use crate::word::Word;
+use crate::word::{Word, word_of};
 use lattice::{Reason, Sizes};
 
+// By number, not by `Attribute`: a word's number can be up to 15, and is refused as a value only where a value can stand.
 fn size_of(sizes: Sizes, attribute: u8) -> u8
     ensures { result ≡ size_of sizes attribute }
 {
@@ -18,20 +20,11 @@ fn size_of(sizes: Sizes, attribute: u8) -> u8
     }
 }
 
-fn same_kind(a: Kind, b: Kind) -> bool
-    ensures { result ≡ same_kind a b }
-{
-    match (a, b) {
-        (Kind::Allow, Kind::Allow) | (Kind::Deny, Kind::Deny) => true,
-        _ => false,
-    }
-}
-
 // Why a head is declined as an exception of a clause.
 fn head_fault(top: Open, heads: usize, kind: Kind, head: Kind) -> Option<Reason>
     ensures { result ≡ head_fault top.depth heads kind head }
 {
-    if same_kind(kind, head) {
+    if kind == head {
         Some(Reason::SameKind)
     } else if top.depth >= 16 || heads >= 256 {
         Some(Reason::TooNested)
@@ -41,12 +34,12 @@ fn head_fault(top: Open, heads: usize, kind: Kind, head: Kind) -> Option<Reason>
 }
 
 // Why a value is declined.
-fn value_fault(sizes: Sizes, last: u16, attribute: u8, value: u8) -> Option<Reason>
-    ensures { result ≡ value_fault sizes last attribute value }
+fn value_fault(sizes: Sizes, last: (u8, u8), attribute: u8, value: u8) -> Option<Reason>
+    ensures { result ≡ value_fault sizes (position last.0 last.1) attribute value }
 {
     if attribute >= 4 || value == 0 || value >= size_of(sizes, attribute) {
         Some(Reason::BadValue)
-    } else if u16::from(attribute) * 256 + u16::from(value) <= last {
+    } else if (attribute, value) <= last {
         Some(Reason::NotRising)
     } else {
         None
@@ -54,25 +47,34 @@ fn value_fault(sizes: Sizes, last: u16, attribute: u8, value: u8) -> Option<Reas
 }
 
 // Why a word is declined inside an open clause of this kind.
-pub(crate) fn fault_in(
+fn fault_in(sizes: Sizes, heads: usize, kind: Kind, top: Open, word: Word) -> Option<Reason>
+    ensures { result ≡ fault_in sizes top.depth heads kind (position top.last.0 top.last.1) top.phase word }
+{
+    match (word, top.phase) {
+        (Word::Value(attribute, value), Phase::Listing) => value_fault(
+            sizes, top.last, attribute, value,
+        ),
+        (Word::Head(head), Phase::Excepting | Phase::Excepted) => head_fault(
+            top, heads, kind, head,
+        ),
+        (Word::Except, Phase::Listing) | (Word::End, Phase::Listing | Phase::Excepted) => None,
+        _ => Some(Reason::MisplacedWord),
+    }
+}
+
+/// The word that a number says, or why it is declined inside an open clause of this kind.
+pub(crate) fn admitted(
     sizes: Sizes,
     heads: usize,
     kind: Kind,
     top: Open,
-    word: Word,
-) -> Option<Reason>
-    ensures { result ≡ fault_in sizes top.depth heads kind top.last top.phase word }
+    word: u32,
+) -> Result<Word, Reason>
+    ensures { result ≡ checked (word_of word) (fault_in sizes top.depth heads kind (position top.last.0 top.last.1) top.phase) }
 {
-    match (top.phase, word) {
-        (_, Word::NoWord) => Some(Reason::BadWord),
-        (Phase::Listing, Word::Value(attribute, value)) => value_fault(
-            sizes, top.last, attribute, value,
-        ),
-        (Phase::Listing, Word::Except | Word::End) => None,
-        (Phase::Excepted, Word::End) => None,
-        (Phase::Excepting | Phase::Excepted, Word::Head(head)) => head_fault(
-            top, heads, kind, head,
-        ),
-        _ => Some(Reason::MisplacedWord),
+    let word = word_of(word).ok_or(Reason::BadWord)?;
+    match fault_in(sizes, heads, kind, top, word) {
+        Some(reason) => Err(reason),
+        None => Ok(word),
     }
 }

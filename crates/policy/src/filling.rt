@@ -9,7 +9,7 @@ use crate::label::{Label, or_top};
 use lattice::Sizes;
 
 impl Label {
-    // Adds a value of an attribute.
+    // Adds a value of an attribute, by its number as the words have it.
     fn insert(&mut self, attribute: u8, value: u8)
         requires { value < 64 }
         ensures { self.new ≡ listed attribute value self.old }
@@ -44,12 +44,7 @@ impl ClauseRecord {
     {
         ClauseRecord {
             kind,
-            list: Label {
-                store: 0,
-                purpose: 0,
-                role: 0,
-                types: 0,
-            },
+            list: Label::default(),
             end: 0,
         }
     }

@@ -5,7 +5,7 @@ ghost use Rattle.policy.specs.Labels.{or_top, declared};
 
 use crate::vocabulary::Vocabulary;
 
-#[derive(Clone, Copy, PartialEq, Eq, Debug)]
+#[derive(Clone, Copy, PartialEq, Eq, Debug, Default)]
 pub struct Label {
     pub store: u64,
     pub purpose: u64,

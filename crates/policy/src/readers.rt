@@ -1,212 +1,94 @@
-//! The two readers, one for each kind of clause, that call each other.
-ghost use Rattle.std.specs.Prelude.{◌≡◌, ℕ, ◌+◌, ◌-◌, ◌*◌, ◌^◌, ◌<◌, ◌≤◌, length};
-ghost use Rattle.policy.specs.Reads.{Ready, Reads, Begun, Firsts, stray_reason};
+//! The reader of clauses, which calls itself for an exception.
+ghost use Rattle.std.specs.Prelude.{◌≡◌, ◌≤◌, [], length};
+ghost use Rattle.policy.specs.Reads.{Ready, Behind, Begun, Firsts, just_open, numbered, stray_reason};
 ghost use Rattle.policy.specs.Sized.{Sized};
 ghost use Rattle.policy.specs.Stands.{Drafted};
-ghost use Rattle.policy.specs.declared.clause.Kind.TheVariants.{Allow, Deny};
 
 use crate::clause::{ClauseRecord, Kind};
 use crate::draft::{Draft, Open, Phase};
-use crate::faults::fault_in;
+use crate::faults::admitted;
 use crate::word::{Word, word_of};
+use arrayvec::ArrayVec;
 use lattice::{Reason, Refusal, Sizes};
 
 impl Open {
     /// A clause whose head alone is read, inside `depth` others.
     fn inside(depth: usize) -> Open
         requires { depth ≤ 256 }
-        ensures { result ≡ record { phase = Phase.Listing; last = 0; depth = depth + 1 } }
+        ensures { result ≡ just_open depth }
     {
         Open {
             phase: Phase::Listing,
-            last: 0,
+            last: (0, 0),
             depth: depth + 1,
         }
     }
 }
 
 impl Draft {
-    /// Reads the words of an ALLOW into its record, on from where `top` stands, and says how many are left after its END.
-    #[cycle(read_allow_read_deny)]
-    fn read_allow(
-        &mut self,
-        record: &mut ClauseRecord,
-        top: Open,
-        words: &[u32],
-    ) -> Result<usize, Refusal>
-        requires { Ready top self.old words.now }
-        ensures { Reads Allow top self.old «record».old words.now result self.new «record».new }
+    /// Reads a clause inside `depth` others from the word behind its head on. It has the next number.
+    /// Says how many words are left after its END.
+    fn read_behind(&mut self, kind: Kind, depth: usize, words: &[u32]) -> Result<usize, Refusal>
+        requires { Ready (just_open depth) (numbered kind self.old) words.now }
+        ensures { Behind kind depth self.old words.now result self.new }
     {
-        let place = self.total - words.len();
-        let [first, rest @ ..] = words else {
-            return Err(Refusal {
-                reason: Reason::MisplacedWord,
-                place,
-            });
-        };
-        let word = word_of(*first);
-        if let Some(reason) = fault_in(self.sizes, self.count, Kind::Allow, top, word) {
-            return Err(Refusal { reason, place });
+        let number = self.clauses.len();
+        let mut own = ClauseRecord::opened(kind);
+        self.clauses.push(own);
+        let mut top = Open::inside(depth);
+        let mut left = words;
+        while let [first, rest @ ..] = left {
+            let place = self.total - left.len();
+            let word = admitted(self.sizes, self.clauses.len(), kind, top, *first).map_err(
+                |reason| reason.at(place),
+            )?;
+            left = rest;
+            match word {
+                Word::Head(inner) => {
+                    let behind = self.read_behind(inner, top.depth, rest)?;
+                    left = &rest[rest.len() - behind..];
+                    top.phase = Phase::Excepted;
+                }
+                Word::Value(attribute, value) => {
+                    own.insert(attribute, value);
+                    top.last = (attribute, value);
+                }
+                Word::Except => top.phase = Phase::Excepting,
+                Word::End => {
+                    own.close(self.sizes, self.clauses.len() as u16);
+                    self.clauses[number] = own;
+                    return Ok(rest.len());
+                }
+            }
         }
-        match word {
-            Word::Head(_) => {
-                let number = self.count;
-                self.count = number + 1;
-                let mut inner = ClauseRecord::opened(Kind::Deny);
-                let left = self.read_deny(&mut inner, Open::inside(top.depth), rest)?;
-                self.clauses[number] = inner;
-                self.read_allow(
-                    record,
-                    Open {
-                        phase: Phase::Excepted,
-                        ..top
-                    },
-                    &rest[rest.len() - left..],
-                )
-            }
-            Word::Value(attribute, value) => {
-                record.insert(attribute, value);
-                let last = u16::from(attribute) * 256 + u16::from(value);
-                self.read_allow(record, Open { last, ..top }, rest)
-            }
-            Word::Except => self.read_allow(
-                record,
-                Open {
-                    phase: Phase::Excepting,
-                    ..top
-                },
-                rest,
-            ),
-            Word::End => {
-                record.close(self.sizes, self.count as u16);
-                Ok(rest.len())
-            }
-            Word::NoWord => Err(Refusal {
-                reason: Reason::BadWord,
-                place,
-            }),
-        }
-    }
-
-    /// Reads the words of a DENY into its record, on from where `top` stands, and says how many are left after its END.
-    #[cycle(read_allow_read_deny)]
-    fn read_deny(
-        &mut self,
-        record: &mut ClauseRecord,
-        top: Open,
-        words: &[u32],
-    ) -> Result<usize, Refusal>
-        requires { Ready top self.old words.now }
-        ensures { Reads Deny top self.old «record».old words.now result self.new «record».new }
-    {
-        let place = self.total - words.len();
-        let [first, rest @ ..] = words else {
-            return Err(Refusal {
-                reason: Reason::MisplacedWord,
-                place,
-            });
-        };
-        let word = word_of(*first);
-        if let Some(reason) = fault_in(self.sizes, self.count, Kind::Deny, top, word) {
-            return Err(Refusal { reason, place });
-        }
-        match word {
-            Word::Head(_) => {
-                let number = self.count;
-                self.count = number + 1;
-                let mut inner = ClauseRecord::opened(Kind::Allow);
-                let left = self.read_allow(&mut inner, Open::inside(top.depth), rest)?;
-                self.clauses[number] = inner;
-                self.read_deny(
-                    record,
-                    Open {
-                        phase: Phase::Excepted,
-                        ..top
-                    },
-                    &rest[rest.len() - left..],
-                )
-            }
-            Word::Value(attribute, value) => {
-                record.insert(attribute, value);
-                let last = u16::from(attribute) * 256 + u16::from(value);
-                self.read_deny(record, Open { last, ..top }, rest)
-            }
-            Word::Except => self.read_deny(
-                record,
-                Open {
-                    phase: Phase::Excepting,
-                    ..top
-                },
-                rest,
-            ),
-            Word::End => {
-                record.close(self.sizes, self.count as u16);
-                Ok(rest.len())
-            }
-            Word::NoWord => Err(Refusal {
-                reason: Reason::BadWord,
-                place,
-            }),
-        }
-    }
-
-    /// Reads the words of a clause of this kind into its record.
-    fn read_kind(
-        &mut self,
-        kind: Kind,
-        record: &mut ClauseRecord,
-        top: Open,
-        words: &[u32],
-    ) -> Result<usize, Refusal>
-        requires { Ready top self.old words.now }
-        ensures { Reads kind top self.old «record».old words.now result self.new «record».new }
-    {
-        match kind {
-            Kind::Allow => self.read_allow(record, top, words),
-            Kind::Deny => self.read_deny(record, top, words),
-        }
+        Err(Reason::MisplacedWord.at(self.total))
     }
 
     /// Reads the first clause from its head on, and says how many words are left after its END.
-    fn read_clause(&mut self, words: &[u32]) -> Result<usize, Refusal>
-        requires { (self.old.count ≡ 0) × ((self.old.total ≡ length words.now) × (Sized self.old.sizes)) }
+    fn read_first(&mut self, words: &[u32]) -> Result<usize, Refusal>
+        requires { (self.old.clauses.items ≡ []) × ((self.old.total ≡ length words.now) × (Sized self.old.sizes)) }
         ensures { Begun self.old words.now result self.new }
     {
         let [first, rest @ ..] = words else {
-            return Err(Refusal {
-                reason: Reason::MisplacedWord,
-                place: 0,
-            });
+            return Err(Reason::MisplacedWord.at(0));
         };
-        let word = word_of(*first);
-        let Word::Head(kind) = word else {
-            return Err(Refusal {
-                reason: stray(word),
-                place: 0,
-            });
-        };
-        let number = self.count;
-        self.count = number + 1;
-        let mut record = ClauseRecord::opened(kind);
-        let left = self.read_kind(kind, &mut record, Open::inside(0), rest)?;
-        self.clauses[number] = record;
-        Ok(left)
+        match word_of(*first) {
+            Some(Word::Head(kind)) => self.read_behind(kind, 0, rest),
+            word => Err(stray(word).at(0)),
+        }
     }
 
     /// Reads a policy's words, all of them.
     fn read_words(&mut self, words: &[u32]) -> Result<(), Refusal>
-        requires { (self.old.count ≡ 0) × ((self.old.total ≡ length words.now) × (Sized self.old.sizes)) }
+        requires { (self.old.clauses.items ≡ []) × ((self.old.total ≡ length words.now) × (Sized self.old.sizes)) }
         ensures { Firsts self.old words.now result self.new }
     {
-        let left = self.read_clause(words)?;
+        let left = self.read_first(words)?;
         if left == 0 {
             return Ok(());
         }
         let place = words.len() - left;
-        Err(Refusal {
-            reason: stray(word_of(words[place])),
-            place,
-        })
+        Err(stray(word_of(words[place])).at(place))
     }
 
     /// The records of the policy that the words spell.
@@ -215,15 +97,10 @@ impl Draft {
         ensures { Drafted sizes words.now result }
     {
         if words.is_empty() || words.len() > 4096 {
-            return Err(Refusal {
-                reason: Reason::WordCount,
-                place: 0,
-            });
+            return Err(Reason::WordCount.at(0));
         }
-        let clauses = [ClauseRecord::opened(Kind::Allow); 256];
         let mut draft = Draft {
-            clauses,
-            count: 0,
+            clauses: ArrayVec::new(),
             sizes,
             total: words.len(),
         };
@@ -232,12 +109,12 @@ impl Draft {
     }
 }
 
-/// Why a word is declined outside every clause.
-fn stray(word: Word) -> Reason
+/// Why what is no head, or not the first one, is declined outside every clause.
+fn stray(word: Option<Word>) -> Reason
     ensures { result ≡ stray_reason word }
 {
     match word {
-        Word::NoWord => Reason::BadWord,
-        _ => Reason::MisplacedWord,
+        Some(_) => Reason::MisplacedWord,
+        None => Reason::BadWord,
     }
 }

@@ -8,6 +8,7 @@ use crate::clause::{ClauseRecord, Kind};
 use crate::draft::Draft;
 use crate::label::Label;
 use crate::vocabulary::Vocabulary;
+use arrayvec::ArrayVec;
 use lattice::{Refusal, Sizes};
 
 impl Policy {
@@ -22,14 +23,14 @@ impl Policy {
             role: 2,
             types: 2,
         };
-        let clause = ClauseRecord {
+        let mut clauses = ArrayVec::new();
+        clauses.push(ClauseRecord {
             kind: Kind::Deny,
             list,
             end: 1,
-        };
+        });
         Policy {
-            clauses: [clause; 256],
-            count: 1,
+            clauses,
             sizes: Sizes {
                 store: 2,
                 purpose: 2,
@@ -43,13 +44,8 @@ impl Policy {
     pub fn read<V: Vocabulary>(&mut self, words: &[u32], scheme: &V) -> Result<(), Refusal>
         ensures { Takes (scheme_sizes (V.orders scheme.now)) words.now self.old result self.new }
     {
-        let draft = Draft::read(words, scheme.sizes())?;
-        let clauses = draft.clauses;
-        *self = Policy {
-            clauses,
-            count: draft.count,
-            sizes: draft.sizes,
-        };
+        let Draft { clauses, sizes, .. } = Draft::read(words, scheme.sizes())?;
+        *self = Policy { clauses, sizes };
         Ok(())
     }
 

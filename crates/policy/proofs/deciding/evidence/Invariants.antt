@@ -1,8 +1,0 @@
-use Rattle.std.proofs.Common.{◌≡◌}
-use Rattle.lattice.specs.Sets.{gather}
-use Rattle.policy.specs.Records.{tree}
-use Rattle.policy.specs.Verdicts.{left_after}
-use Rattle.policy.proofs.deciding.evidence.Given as goal
-
-abbrev pub invariant-loop-v : goal.invariant-loop-v
-invariant-loop-v g l = l.left ≡ gather (left_after (g.V.Vocabulary.orders l.scheme) (tree l.records l.number) l.label) l.label.types l.label.types l.v
