@@ -81,7 +81,7 @@ module _ (start ns : List NodeRecord) (fl : List FlowRecord) (rw' : List (List �
         ∙ shr-shr _ (value + count_trailing_zeros 64 rest) 1
 
     -- the value that it makes is 0, or is there
-    lead_none : number < F
+    pub lead_none : number < F
         → (through (graph ns fl rw' N F) number (value + count_trailing_zeros 64 rest) ≢ 0
         → holds (get_or ns (get_or fl number no_flow).to no_node).label (through (graph ns fl rw' N F) number (value + count_trailing_zeros 64 rest)))
         → Leading start ns fl rw' N F W₀ W fresh next₀ next d number (value + count_trailing_zeros 64 rest + 1) (rest / 2 ^ count_trailing_zeros 64 rest / 2)
@@ -155,14 +155,3 @@ module _ (start ns : List NodeRecord) (fl : List FlowRecord) (rw' : List (List �
         (fit.bounded _ _) is_nodes is_next is_words)
         refl (ap length is_nodes ∙ length-set _ _ _) (ap length is_words ∙ length-set _ _ _ ∙ length-set _ _ _) (ap length is_next ∙ length-set _ _ _)
         some new lf open_end
-
-    -- the same, of lists that were left as they were
-    pub lead_left_out : (ns' : List NodeRecord) (W' next' : List ℕ) → ns' ≡ ns → next' ≡ next → W' ≡ W → number < F
-        → (through (graph ns fl rw' N F) number (value + count_trailing_zeros 64 rest) ≢ 0
-        → holds (get_or ns (get_or fl number no_flow).to no_node).label (through (graph ns fl rw' N F) number (value + count_trailing_zeros 64 rest)))
-        → Leading start ns' fl rw' N F W₀ W' fresh next₀ next' d number (value + count_trailing_zeros 64 rest + 1) (rest / 2 ^ count_trailing_zeros 64 rest / 2)
-    lead_left_out ns' W' next' is_nodes is_next is_words lf there =
-        subst (λ x. Leading start x fl rw' N F W₀ W' fresh next₀ next' d number (value + count_trailing_zeros 64 rest + 1) (rest / 2 ^ count_trailing_zeros 64 rest / 2)) (sym is_nodes)
-        (subst (λ x. Leading start ns fl rw' N F W₀ W' fresh next₀ x d number (value + count_trailing_zeros 64 rest + 1) (rest / 2 ^ count_trailing_zeros 64 rest / 2)) (sym is_next)
-        (subst (λ x. Leading start ns fl rw' N F W₀ x fresh next₀ next d number (value + count_trailing_zeros 64 rest + 1) (rest / 2 ^ count_trailing_zeros 64 rest / 2)) (sym is_words)
-        (lead_none lf there)))

@@ -1,8 +1,7 @@
 //! The values that are fresh in one round are led on along the flows.
 ghost use Rattle.std.specs.Prelude.{◌≡◌, ℕ, ◌+◌, ◌*◌, ◌^◌, ◌<◌, length, slice_index_or, bit_or, slice_index, slice_set};
-ghost use Rattle.flows.specs.Charts.{LedOn, Ready};
+ghost use Rattle.flows.specs.Charts.{LedOn, Ready, Went, SameMemory};
 ghost use Rattle.flows.specs.Graph.{no_flow, no_node, relabeled};
-ghost use Rattle.flows.specs.Rounds.{Grown};
 
 use crate::charts::Chart;
 use crate::fronts::Front;
@@ -16,47 +15,44 @@ pub(crate) struct Round<'a> {
     pub(crate) distance: u32,
 }
 
-impl Round<'_> {
-    /// Puts `value` into the label of `node` and into `next`, and writes its words in the workspace.
-    fn put(
-        &self,
-        nodes: &mut [NodeRecord],
-        workspace: &mut [u32],
-        next: &mut Front,
-        node: u16,
-        value: u8,
-        arrival: u32,
-    )
-        requires { (node < length nodes.old) × (node < 4096) × (128 * node + 127 < length workspace.old) × (value < 64) × (self.now.distance < 2 ^ 20) }
-        ensures nodes { nodes.new ≡ slice_set nodes.old node
-            (relabeled (slice_index_or nodes.old node no_node) (bit_or (slice_index_or nodes.old node no_node).label (2 ^ value))) }
-        ensures next { next.new ≡ slice_set next.old node (bit_or (slice_index next.old node) (2 ^ value)) }
-        ensures words { workspace.new ≡ slice_set (slice_set workspace.old (128 * node + value) (self.now.distance + 1)) (128 * node + 64 + value) arrival }
+/// What a round writes: the labels, the words that say how their values came there, and what is new.
+#[derive(Drop)]
+pub(crate) struct Wave<'a> {
+    pub(crate) nodes: &'a mut [NodeRecord],
+    pub(crate) workspace: &'a mut [u32],
+    pub(crate) next: &'a mut Front,
+}
+
+impl Wave<'_> {
+    /// Puts `value` into the label of `node` and into what is new, and writes its words in the workspace.
+    fn put(&mut self, node: u16, value: u8, distance: u32, arrival: u32)
+        requires { (node < length self.old.nodes.now) × (node < 4096) × (128 * node + 127 < length self.old.workspace.now) × (value < 64) }
+        ensures nodes { self.new.nodes.now ≡ slice_set self.old.nodes.now node
+            (relabeled (slice_index_or self.old.nodes.now node no_node) (bit_or (slice_index_or self.old.nodes.now node no_node).label (2 ^ value))) }
+        ensures next { self.new.next.now ≡ slice_set self.old.next.now node (bit_or (slice_index self.old.next.now node) (2 ^ value)) }
+        ensures words { self.new.workspace.now ≡ slice_set (slice_set self.old.workspace.now (128 * node + value) distance) (128 * node + 64 + value) arrival }
+        ensures same { SameMemory self.old self.new }
     {
         let bit = 1u64 << value;
         let first = 128 * node as usize;
-        nodes[node as usize].label |= bit;
-        next.add(node, bit);
-        workspace[first + value as usize] = self.distance + 1;
-        workspace[first + 64 + value as usize] = arrival;
+        self.nodes[node as usize].label |= bit;
+        self.next.add(node, bit);
+        self.workspace[first + value as usize] = distance;
+        self.workspace[first + 64 + value as usize] = arrival;
     }
+}
 
+impl Round<'_> {
     /// Leads the fresh values at the start of flow `number` on to its end.
-    fn lead_on(
-        &self,
-        nodes: &mut [NodeRecord],
-        workspace: &mut [u32],
-        next: &mut Front,
-        number: usize,
-    )
-        requires ready { Ready self.now nodes.old workspace.old next.old }
+    fn lead_on(&self, wave: &mut Wave, number: usize)
+        requires ready { Ready self.now wave.old }
         requires number_within { number < length self.now.chart.flows.now }
-        ensures ready { Ready self.now nodes.new workspace.new next.new }
-        ensures grown { Grown (length self.now.chart.head.now) nodes.old nodes.new workspace.old workspace.new next.old next.new }
-        ensures led { LedOn self.now nodes.new workspace.new number }
+        ensures ready { Ready self.now wave.new }
+        ensures went { Went self.now wave.old wave.new }
+        ensures led { LedOn self.now wave.new number }
     {
         let flow = self.chart.flows[number];
-        if nodes[flow.to as usize].verified {
+        if wave.nodes[flow.to as usize].verified {
             return;
         }
         let mut rest = self.fresh.at(flow.from as usize);
@@ -65,9 +61,9 @@ impl Round<'_> {
             let skip = rest.trailing_zeros();
             value += skip as usize;
             let made = self.chart.rows[flow.step as usize][value];
-            if made != 0 && nodes[flow.to as usize].label >> made & 1 == 0 {
+            if made != 0 && wave.nodes[flow.to as usize].label >> made & 1 == 0 {
                 let arrival = (64 * number + value) as u32;
-                self.put(nodes, workspace, next, flow.to, made, arrival);
+                wave.put(flow.to, made, self.distance + 1, arrival);
             }
             value += 1;
             rest = rest >> skip >> 1;
@@ -75,36 +71,30 @@ impl Round<'_> {
     }
 
     /// Leads the fresh values of `node` on along each of its flows.
-    fn lead_from(
-        &self,
-        nodes: &mut [NodeRecord],
-        workspace: &mut [u32],
-        next: &mut Front,
-        node: usize,
-    )
-        requires ready { Ready self.now nodes.old workspace.old next.old }
+    fn lead_from(&self, wave: &mut Wave, node: usize)
+        requires ready { Ready self.now wave.old }
         requires node_within { node < length self.now.chart.head.now }
-        ensures ready { Ready self.now nodes.new workspace.new next.new }
-        ensures grown { Grown (length self.now.chart.head.now) nodes.old nodes.new workspace.old workspace.new next.old next.new }
+        ensures ready { Ready self.now wave.new }
+        ensures went { Went self.now wave.old wave.new }
         ensures led { (f : ℕ) → f < length self.now.chart.flows.now → (slice_index_or self.now.chart.flows.now f no_flow).«from» ≡ node
-            → LedOn self.now nodes.new workspace.new f }
+            → LedOn self.now wave.new f }
     {
         let mut cursor = self.chart.head[node];
         while let Some(number) = cursor {
-            self.lead_on(nodes, workspace, next, number as usize);
+            self.lead_on(wave, number as usize);
             cursor = self.chart.link[number as usize];
         }
     }
 
-    /// Leads the fresh values of all nodes on, and adds what is new at a node to `next`.
-    pub(crate) fn lead(&self, nodes: &mut [NodeRecord], workspace: &mut [u32], next: &mut Front)
-        requires ready { Ready self.now nodes.old workspace.old next.old }
-        ensures ready { Ready self.now nodes.new workspace.new next.new }
-        ensures grown { Grown (length self.now.chart.head.now) nodes.old nodes.new workspace.old workspace.new next.old next.new }
-        ensures led { (f : ℕ) → f < length self.now.chart.flows.now → LedOn self.now nodes.new workspace.new f }
+    /// Leads the fresh values of all nodes on.
+    pub(crate) fn lead(&self, wave: &mut Wave)
+        requires { Ready self.now wave.old }
+        ensures ready { Ready self.now wave.new }
+        ensures went { Went self.now wave.old wave.new }
+        ensures led { (f : ℕ) → f < length self.now.chart.flows.now → LedOn self.now wave.new f }
     {
         for node in self.fresh.nodes() {
-            self.lead_from(nodes, workspace, next, *node as usize);
+            self.lead_from(wave, *node as usize);
         }
     }
 }

@@ -11,7 +11,7 @@ use crate::chaining::chain;
 use crate::charts::Chart;
 use crate::fitting;
 use crate::fronts::Front;
-use crate::leading::Round;
+use crate::leading::{Round, Wave};
 use crate::misfit::Misfit;
 use crate::records::{FlowRecord, NodeRecord};
 
@@ -38,6 +38,11 @@ fn run(nodes: &mut [NodeRecord], workspace: &mut [u32], chart: Chart, fresh: &mu
     ensures certified { Certified (graph_on chart.entry nodes.new) workspace.new }
 {
     let mut next = Front::new();
+    let mut wave = Wave {
+        nodes,
+        workspace,
+        next: &mut next,
+    };
     let mut distance = 0;
     while !fresh.is_empty() {
         let round = Round {
@@ -45,8 +50,8 @@ fn run(nodes: &mut [NodeRecord], workspace: &mut [u32], chart: Chart, fresh: &mu
             fresh,
             distance,
         };
-        round.lead(nodes, workspace, &mut next);
-        fresh.take(&mut next);
+        round.lead(&mut wave);
+        fresh.take(wave.next);
         distance += 1;
     }
 }

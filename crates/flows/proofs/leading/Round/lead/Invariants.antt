@@ -3,4 +3,4 @@ use Rattle.flows.proofs.Traces.{Rounding}
 use Rattle.flows.proofs.leading.Round.lead.Given as goal
 
 abbrev pub invariant-loop-node : goal.invariant-loop-node
-invariant-loop-node l = Rounding l.self l.initial.nodes l.nodes l.initial.workspace l.workspace l.initial.next l.next l.node-items l.node-index
+invariant-loop-node l = Rounding l.self l.initial.wave l.wave l.node-items l.node-index
