@@ -6,14 +6,6 @@ use Rattle.flows.specs.declared.records.FlowRecord.{FlowRecord}
 use Rattle.flows.specs.Graph.{no_flow}
 use Rattle.flows.specs.Rounds.{Chained, past_flow}
 
-pub chain_none : (fl : List FlowRecord) (head link : List (Option ℕ)) → ((n : ℕ) → get_or head n None ≡ None) → Chained fl 0 head link
-chain_none fl head link none = record {
-  last = λ f l. absurd (omega arith);
-  head_is = λ n f is. let same = sym (none n) ∙ is in cc;
-  before = λ f g l lg. absurd (omega arith);
-  link_is = λ g f lg. absurd (omega arith);
-}
-
 pub chain_more : (fl : List FlowRecord) (k : ℕ) (head link : List (Option ℕ)) → Chained fl k head link
     → (get_or fl k no_flow).«from» < length head → k < length link
     → Chained fl (k + 1) (set head (get_or fl k no_flow).«from» (Some k)) (set link k (get_or head (get_or fl k no_flow).«from» None))

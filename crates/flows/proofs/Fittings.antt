@@ -30,11 +30,5 @@ module _ (ns : List NodeRecord) (W : List ℕ) (fl : List FlowRecord) (rows : Li
     bounded = λ t v. every_read (λ x. x < 64) _ 0 (omega arith) (every_read (All (λ x. x < 64)) rows [] (λ k d l. absurd (omega arith)) small t) v;
   }
 
-  pub sizes_of : Fitting (whole ns fl rows) W → (length ns ≤ 4096) × (length fl ≤ 16384) × (128 * length ns ≤ length W)
-  sizes_of fit = (fit.few_nodes, fit.few_flows, fit.words_room)
-
-  pub flows_of : Fitting (whole ns fl rows) W → (f : ℕ) → f < length fl → FlowFits (length ns) (get_or fl f no_flow)
-  flows_of fit f l = ((fit.joined f l).0, (fit.joined f l).1, fit.stepped f l)
-
   pub rows_of : Fitting (whole ns fl rows) W → All (All (λ v. v < 64)) rows
   rows_of fit = All-from_get_or (All (λ v. v < 64)) rows [] (λ t _. All-from_get_or (λ v. v < 64) (get_or rows t []) 0 (λ v _. fit.bounded t v))

@@ -19,12 +19,12 @@ pub record Leading (start ns : List NodeRecord) (fl : List FlowRecord) (rw' : Li
   pub spread : Spread (graph ns fl rw' N F) W fresh next d
   pub led : Led (graph ns fl rw' N F) W fresh d number value
   pub grown : Grown N start ns W₀ W next₀ next
+  pub fits : get_or fresh (get_or fl number no_flow).«from» 0 < 2 ^ 64
   pub within : value ≤ 64
   pub left : rest ≡ get_or fresh (get_or fl number no_flow).«from» 0 / 2 ^ value
 
 module _ (start ns : List NodeRecord) (fl : List FlowRecord) (rw' : List (List ℕ)) (N F : ℕ) (W₀ W fresh next₀ next : List ℕ)
     (d number value rest : ℕ)
-    (fits : get_or fresh (get_or fl number no_flow).«from» 0 < 2 ^ 64)
     (lead : Leading start ns fl rw' N F W₀ W fresh next₀ next d number value rest) where
   -- the bit of a later value
   bit_left : (w : ℕ) → value ≤ w → get_or fresh (get_or fl number no_flow).«from» 0 / 2 ^ w % 2 ≡ rest / 2 ^ (w - value) % 2
@@ -50,7 +50,7 @@ module _ (start ns : List NodeRecord) (fl : List FlowRecord) (rw' : List (List �
   -- the next value that is led on
   module _ (more : 0 < rest) where
     small : rest < 2 ^ 64
-    small = omega (arith, fits, lead.left, shr_le (get_or fresh (get_or fl number no_flow).«from» 0) value)
+    small = omega (arith, lead.fits, lead.left, shr_le (get_or fresh (get_or fl number no_flow).«from» 0) value)
 
     lead_has : holds (get_or fresh (get_or fl number no_flow).«from» 0) (value + count_trailing_zeros 64 rest)
     lead_has =
@@ -58,7 +58,7 @@ module _ (start ns : List NodeRecord) (fl : List FlowRecord) (rw' : List (List �
         bit_left (value + count_trailing_zeros 64 rest) (omega arith) ∙ ap (λ k. rest / 2 ^ k % 2) there ∙ trailing_some 64 rest more small
 
     pub lead_within : value + count_trailing_zeros 64 rest < 64
-    lead_within = has_below _ _ 64 fits lead_has
+    lead_within = has_below _ _ 64 lead.fits lead_has
 
     -- all up to it are led on, if it is
     led_upto : (holds (get_or fresh (get_or fl number no_flow).«from» 0) (value + count_trailing_zeros 64 rest)
@@ -89,6 +89,7 @@ module _ (start ns : List NodeRecord) (fl : List FlowRecord) (rw' : List (List �
       spread = lead.spread;
       led = led_upto (λ h some. near _ _ (lead.spread.fit.joined number lf).1 (lead.spread.fit.bounded _ _) (there some));
       grown = lead.grown;
+      fits = lead.fits;
       within = omega (arith, lead_within);
       left = lead_left;
     }
@@ -117,6 +118,7 @@ module _ (start ns : List NodeRecord) (fl : List FlowRecord) (rw' : List (List �
           (lead.spread.fit.joined number lf).1 (lead.spread.fit.bounded _ _) some open_end lf refl lead_within was.0 was.1 refl is lead.spread;
       led = λ w lw h some' open'. go w lw h some' open' (dec_lt w (value + count_trailing_zeros 64 rest));
       grown = grown_more lead.grown grown_here;
+      fits = lead.fits;
       within = omega (arith, lead_within);
       left = lead_left;
     }

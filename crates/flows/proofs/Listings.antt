@@ -6,6 +6,7 @@ use lib.Bits.{or_zero_l, or_self}
 use Rattle.std.proofs.Math.Seq.{get_or-append_seam}
 use Rattle.std.proofs.lemmas.List.Sums.{sum_by-cons, sum_by-set}
 use Rattle.flows.specs.Fronts.{some, Empty, Lists, Listed}
+use Rattle.flows.specs.Rounds.{Cleared}
 
 -- a list with zeros alone
 pub sum_none : (xs : List ℕ) → ((n : ℕ) → get_or xs n 0 ≡ 0) → sum xs ≡ 0
@@ -39,18 +40,6 @@ lists_none sets empty = record {
   lists = record { long = empty.long; there = λ n ne. absurd (ne (empty.none n)); within = λ j lj. absurd (omega arith) };
   once = sym (some_sum_none sets empty.none);
 }
-
--- where nothing is listed, all sets are empty
-pub lists_empty : (sets nodes : List ℕ) → Listed sets nodes → length nodes ≡ 0 → Empty sets
-lists_empty sets nodes l e = record { long = l.lists.long; none = λ n. go n (ℕ_discrete (get_or sets n 0) 0) }
-  where
-    go : (n : ℕ) → Dec (get_or sets n 0 ≡ 0) → get_or sets n 0 ≡ 0
-    go n (yes z) = z
-    go n (no ne) = absurd (omega (arith, (l.lists.there n ne).1))
-
--- all sets are empty, so nothing is listed
-pub empty_lists : (sets nodes : List ℕ) → Listed sets nodes → Empty sets → length nodes ≡ 0
-empty_lists sets nodes l empty = l.once ∙ some_sum_none sets empty.none
 
 -- a listed node is one of the nodes
 pub listed_within : (sets nodes : List ℕ) → Lists sets nodes → (j : ℕ) → j < length nodes → get_or nodes j 0 < 4096
@@ -136,12 +125,7 @@ front_reads d (x ∷ xs) none (suc k) (suc n) = front_reads d xs (λ m. none (su
 pub empty_zeros : Empty (replicate 4096 0)
 empty_zeros = record { long = length-replicate {A = ℕ} 4096 0; none = same_reads 0 4096 }
 
--- the first k words are cleared
-pub record Cleared (k : ℕ) (before after : List ℕ) : Type 0 where
-  pub below : (i : ℕ) → i < k → get_or after i 0 ≡ 0
-  pub past : (i : ℕ) → k ≤ i → get_or after i 0 ≡ get_or before i 0
-  pub long : length after ≡ length before
-
+-- a list whose first part was filled with zeros
 pub cleared : (k : ℕ) (before front : List ℕ) → k ≤ length before → front ≡ replicate k 0 → Cleared k before (front ++ drop k before)
 cleared k before front fits is = record {
   below = λ i l. get_or_append_left front (drop k before) 0 i (omega (arith, front_long)) ∙ ap (λ xs. get_or xs i 0) is ∙ same_reads 0 k i;
@@ -161,24 +145,6 @@ pub record Clearing (before sets nodes : List ℕ) (i : ℕ) : Type 0 where
   pub done : (j : ℕ) → j < i → get_or sets (get_or nodes j 0) 0 ≡ 0
   pub others : (n : ℕ) → get_or before n 0 ≡ 0 → get_or sets n 0 ≡ 0
 
-pub clearing_more : (before sets nodes : List ℕ) (i : ℕ) → get_or nodes i 0 < 4096 → Clearing before sets nodes i
-    → Clearing before (set sets (get_or nodes i 0) 0) nodes (i + 1)
-clearing_more before sets nodes i room c = record {
-  long = length-set sets (get_or nodes i 0) 0 ∙ c.long;
-  done = below_more (λ j. get_or (set sets (get_or nodes i 0) 0) (get_or nodes j 0) 0 ≡ 0) i (λ j lj. none (get_or nodes j 0) (λ _. c.done j lj)) here;
-  others = λ n was. none n (λ _. c.others n was);
-}
-  where
-    here : get_or (set sets (get_or nodes i 0) 0) (get_or nodes i 0) 0 ≡ 0
-    here = get_or-set_same sets (get_or nodes i 0) 0 0 (omega (arith, c.long))
-
-    none : (n : ℕ) → (n ≢ get_or nodes i 0 → get_or sets n 0 ≡ 0) → get_or (set sets (get_or nodes i 0) 0) n 0 ≡ 0
-    none n was = go (ℕ_discrete n (get_or nodes i 0))
-      where
-        go : Dec (n ≡ get_or nodes i 0) → get_or (set sets (get_or nodes i 0) 0) n 0 ≡ 0
-        go (yes e) = ap (λ k. get_or (set sets (get_or nodes i 0) 0) k 0) e ∙ here
-        go (no ne) = get_or-set_other sets (get_or nodes i 0) n 0 0 ne ∙ was ne
-
 pub clearing_end : (before sets nodes : List ℕ) (i : ℕ) → Listed before nodes → length nodes ≤ i → Clearing before sets nodes i → Empty sets
 clearing_end before sets nodes i l all c = record { long = c.long; none = λ n. go n (ℕ_discrete (get_or before n 0) 0) }
   where
@@ -194,9 +160,6 @@ pub record Taking (own other nodes : List ℕ) (i : ℕ) : Type 0 where
   pub long : length own ≡ 4096
   pub done : (j : ℕ) → j < i → get_or own (get_or nodes j 0) 0 ≡ get_or other (get_or nodes j 0) 0
   pub either : (n : ℕ) → (get_or own n 0 ≡ 0) ⊎ (get_or own n 0 ≡ get_or other n 0)
-
-pub taking_none : (own other nodes : List ℕ) → Empty own → Taking own other nodes 0
-taking_none own other nodes empty = record { long = empty.long; done = λ j lj. absurd (omega arith); either = λ n. inl (empty.none n) }
 
 pub taking_more : (own other nodes : List ℕ) (i : ℕ) → get_or nodes i 0 < 4096 → Taking own other nodes i
     → Taking (set own (get_or nodes i 0) (bit_or (get_or own (get_or nodes i 0) 0) (get_or other (get_or nodes i 0) 0))) other nodes (i + 1)
@@ -224,14 +187,3 @@ taking_more own other nodes i room t = record {
     which : (n : ℕ) → Dec (n ≡ m) → (get_or (set own m s) n 0 ≡ 0) ⊎ (get_or (set own m s) n 0 ≡ get_or other n 0)
     which n (yes e) = inr (subst (λ k. get_or (set own m s) k 0 ≡ get_or other k 0) (sym e) here)
     which n (no ne) = ⊎_elim (λ z. inl (get_or-set_other own m n s 0 ne ∙ z)) (λ e. inr (get_or-set_other own m n s 0 ne ∙ e)) (t.either n)
-
-pub taking_end : (own other nodes : List ℕ) (i : ℕ) → Lists other nodes → length nodes ≤ i → Taking own other nodes i
-    → (n : ℕ) → get_or own n 0 ≡ get_or other n 0
-taking_end own other nodes i l all t n = go (ℕ_discrete (get_or other n 0) 0)
-  where
-    go : Dec (get_or other n 0 ≡ 0) → get_or own n 0 ≡ get_or other n 0
-    go (yes z) = ⊎_elim (λ own_none. own_none ∙ sym z) (λ e. e) (t.either n)
-    go (no ne) =
-        let at = l.there n ne in
-        let below = at.1 in
-        subst (λ k. get_or own k 0 ≡ get_or other k 0) at.2 (t.done at.0 (omega (arith, below)))

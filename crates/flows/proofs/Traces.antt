@@ -79,9 +79,6 @@ pub record Rounding (r : Round) (start wave : Wave) (nodes : List ℕ) (i : ℕ)
   pub went : Went r start wave
   pub led : (f j : ℕ) → f < length r.chart.flows.now → j < i → get_or nodes j 0 ≡ (get_or r.chart.flows.now f no_flow).«from» → LedOn r wave f
 
-pub round_begin : (r : Round) (wave : Wave) (nodes : List ℕ) → Ready r wave → Rounding r wave wave nodes 0
-round_begin r wave nodes ready = record { ready = ready; went = went_none r wave; led = λ f j lf lj. absurd (omega arith) }
-
 pub round_more : (r : Round) (start wave wave' : Wave) (nodes : List ℕ) (i : ℕ)
     → Rounding r start wave nodes i → Ready r wave' → Went r wave wave'
     → ((f : ℕ) → f < length r.chart.flows.now → (get_or r.chart.flows.now f no_flow).«from» ≡ get_or nodes i 0 → LedOn r wave' f)

@@ -52,6 +52,12 @@ pub record Begun (k : ℕ) (before after : List NodeRecord) (fresh : List ℕ) :
   pub within : (n : ℕ) → slice_index fresh n ≢ 0 → n < k
   pub long : length fresh ≡ 4096
 
+-- the first k words are cleared
+pub record Cleared (k : ℕ) (before after : List ℕ) : Type 0 where
+  pub below : (i : ℕ) → i < k → slice_index after i ≡ 0
+  pub past : (i : ℕ) → k ≤ i → slice_index after i ≡ slice_index before i
+  pub long : length after ≡ length before
+
 -- what a part of a round did: values are new in the labels of the first k nodes, and what was there is as near as it was
 pub record Grown (k : ℕ) (before after : List NodeRecord) (W W' next next' : List ℕ) : Type 0 where
   pub same : Relabeled k before after

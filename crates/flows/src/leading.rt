@@ -57,11 +57,13 @@ impl Round<'_> {
         }
         let mut rest = self.fresh.at(flow.from as usize);
         let mut value = 0;
+        // Each turn goes to the next value that is there, since most sets have few: a range would try all 64.
         while rest != 0 {
             let skip = rest.trailing_zeros();
             value += skip as usize;
             let made = self.chart.rows[flow.step as usize][value];
             if made != 0 && wave.nodes[flow.to as usize].label >> made & 1 == 0 {
+                // One word of the memory that is lent has the flow and the value.
                 let arrival = (64 * number + value) as u32;
                 wave.put(flow.to, made, self.distance + 1, arrival);
             }

@@ -4,7 +4,7 @@ ghost use Rattle.flows.specs.Certificate.{Certified};
 ghost use Rattle.flows.specs.Charts.{Charted, graph_on};
 ghost use Rattle.flows.specs.Fitting.{Fitting};
 ghost use Rattle.flows.specs.Graph.{whole, no_node};
-ghost use Rattle.flows.specs.Rounds.{Begun, Starts};
+ghost use Rattle.flows.specs.Rounds.{Begun, Cleared, Starts};
 ghost use Rattle.flows.specs.Settled.{Beyond, Relabeled, Settled};
 
 use crate::chaining::chain;
@@ -15,11 +15,13 @@ use crate::leading::{Round, Wave};
 use crate::misfit::Misfit;
 use crate::records::{FlowRecord, NodeRecord};
 
-/// Makes each label the node's marks, and gives the marks as fresh values.
-fn begin(nodes: &mut [NodeRecord]) -> Front
-    requires { length nodes.old ≤ 4096 }
-    ensures { Begun (length nodes.old) nodes.old nodes.new result }
+/// Makes each label the node's marks, clears the words of the nodes, and gives the marks as fresh values.
+fn begin(nodes: &mut [NodeRecord], workspace: &mut [u32]) -> Front
+    requires { (length nodes.old ≤ 4096) × (128 * length nodes.old ≤ length workspace.old) }
+    ensures begun { Begun (length nodes.old) nodes.old nodes.new result }
+    ensures cleared { Cleared (128 * length nodes.old) workspace.old workspace.new }
 {
+    workspace[..128 * nodes.len()].fill(0);
     let mut fresh = Front::new();
     for (number, node) in nodes.iter_mut().enumerate() {
         node.label = node.marks;
@@ -71,8 +73,7 @@ fn settle(
     let head = &mut heads[..nodes.len()];
     let link = &mut links[..flows.len()];
     chain(flows, head, link);
-    workspace[..128 * nodes.len()].fill(0);
-    let mut fresh = begin(nodes);
+    let mut fresh = begin(nodes, workspace);
     let chart = Chart {
         flows,
         rows,

@@ -4,8 +4,7 @@ use Rattle.flows.specs.declared.records.NodeRecord.{NodeRecord}
 use Rattle.flows.specs.declared.records.FlowRecord.{FlowRecord}
 use Rattle.flows.specs.Charts.{graph_on}
 use Rattle.flows.specs.Certificate.{Certified}
-use Rattle.flows.proofs.Traces.{same_more}
-use Rattle.flows.proofs.Spreads.{Running, held_most, lit_some, running_begun, running_more, running_end, round_grows}
+use Rattle.flows.proofs.Spreads.{Running, held_most, lit_some, running_more, running_end, round_grows}
 use Rattle.flows.proofs.rounds.run.Goals as goal
 
 -- what holds of the lists that the wave has holds of those that were lent to it

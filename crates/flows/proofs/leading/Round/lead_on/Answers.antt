@@ -1,6 +1,5 @@
 -- Each turn leads the next fresh value on, or finds it there.
-use Rattle.std.proofs.Common.{◌^◌, ◌<◌, get_or, ◌∙◌, arith}
-use Rattle.flows.specs.Graph.{no_flow}
+use Rattle.std.proofs.Common.{◌<◌, ◌∙◌, arith}
 use Rattle.flows.proofs.Sets.{bit_clear, bit_set}
 use Rattle.flows.proofs.Leads.{lead_end, lead_within, lead_made, lead_none}
 use Rattle.flows.proofs.Relabels.{same_verified}
@@ -10,23 +9,21 @@ use Rattle.flows.proofs.leading.Round.lead_on.Goals.{then-made-ne0+then-wave-flo
 
 pub bounds-self-value : goal.bounds-self-value
 bounds-self-value c =
-    let fits : get_or c.args.self.now.fresh.now (get_or c.args.self.now.chart.flows.now c.args.number no_flow).«from» 0 < 2 ^ 64 = omega (arith, c.at-rest.ensures, c.at-rest.type_inv) in
-    lead_within _ _ _ _ _ _ _ _ _ _ _ _ _ _ _ fits c.loop-rest.invariant.lead (omega (arith, c.loop-rest-test.true))
+    lead_within _ _ _ _ _ _ _ _ _ _ _ _ _ _ _ c.loop-rest.invariant.lead (omega (arith, c.loop-rest-test.true))
 
 pub loop-rest-preserved : goal.loop-rest-preserved
 loop-rest-preserved c =
-    let fits : get_or c.args.self.now.fresh.now (get_or c.args.self.now.chart.flows.now c.args.number no_flow).«from» 0 < 2 ^ 64 = omega (arith, c.at-rest.ensures, c.at-rest.type_inv) in
     let more : 0 < c.loop-rest.rest = omega (arith, c.loop-rest-test.true) in
     let lead = c.loop-rest.invariant.lead in
     elim c.if-made-ne0.branch [
       | then-made-ne0+then-wave-flow-eq0 w ↦ rw w.wave-is (record {
         same = same_more c.loop-rest.invariant.same w.put.ensures.same;
-        lead = lead_made _ _ _ _ _ _ _ _ _ _ _ _ _ _ _ fits lead more _ _ _ w.put.ensures.nodes w.put.ensures.next w.put.ensures.words
+        lead = lead_made _ _ _ _ _ _ _ _ _ _ _ _ _ _ _ lead more _ _ _ w.put.ensures.nodes w.put.ensures.next w.put.ensures.words
             w.if-made-ne0.true (bit_clear _ w.if-wave-flow-eq0.true) c.requires.number_within (same_verified _ _ lead.grown.same _ ∙ c.if-wave-flow.false);
       })
       | else-made-ne0 w ↦ rw w.wave-is (record {
         same = c.loop-rest.invariant.same;
-        lead = lead_none _ _ _ _ _ _ _ _ _ _ _ _ _ _ _ fits lead more c.requires.number_within
+        lead = lead_none _ _ _ _ _ _ _ _ _ _ _ _ _ _ _ lead more c.requires.number_within
             (elim w.else-made-ne0.branch [
               | else-made-ne0-via-then-made-ne0+else-wave-flow-eq0 w' ↦ λ _. bit_set _ w'.if-wave-flow-eq0.false
               | else-made-ne0-via-else-made-ne0 w' ↦ λ some. absurd (some w'.if-made-ne0.false)
@@ -36,5 +33,4 @@ loop-rest-preserved c =
 
 pub returns-clause-led : goal.returns-clause-led
 returns-clause-led c =
-    let fits : get_or c.args.self.now.fresh.now (get_or c.args.self.now.chart.flows.now c.args.number no_flow).«from» 0 < 2 ^ 64 = omega (arith, c.at-rest.ensures, c.at-rest.type_inv) in
-    lead_end _ _ _ _ _ _ _ _ _ _ _ _ _ _ _ fits c.loop-rest.invariant.lead c.loop-rest-test.false
+    lead_end _ _ _ _ _ _ _ _ _ _ _ _ _ _ _ c.loop-rest.invariant.lead c.loop-rest-test.false

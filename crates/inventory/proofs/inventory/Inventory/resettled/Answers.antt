@@ -1,9 +1,9 @@
 -- The lemmas of Resettles, at the view of the inventory that was taken apart.
 use Rattle.std.proofs.Common.{Result, Ok, Err, IsOk, OnOk, refl}
-use Rattle.flows.proofs.Firsts.{fits_first, after_long, after_past, after_small, after_same, after_certified}
+use Rattle.flows.proofs.Firsts.{fits_first}
 use Rattle.inventory.specs.Inventories.{view}
 use Rattle.inventory.proofs.Outcomes.{sound, parts}
-use Rattle.inventory.proofs.Resettles.{fitting, settled_again}
+use Rattle.inventory.proofs.Resettles.{fitting, settled_firsts}
 use Rattle.inventory.proofs.inventory.Inventory.resettled.Goals as goal
 
 on_ok : {T E P : Type 0} (r : Result T E) → OnOk r P → IsOk r → P
@@ -15,20 +15,12 @@ invariant_of-result c =
     let v = view c.args.self in
     let s = sound c.args.self in
     let fit = fitting v s in
-    let first = fits_first v.nodes v.flows v.steps v.node_count v.flow_count v.workspace fit.nodes_room fit.flows_room fit in
-    let done = on_ok c.spread.result c.spread.ensures.settled (c.spread.ensures.fits.1 first) in
-    parts _ (settled_again v s _ _ _ (after_long _ _ _ _ _ _ fit.nodes_room fit.flows_room _ _ done) done.words_long (after_past _ _ _ _ _ _ fit.nodes_room fit.flows_room _ _ done) refl
-    (after_same _ _ _ _ _ _ fit.nodes_room fit.flows_room _ _ done) (after_certified _ _ _ _ _ _ fit.nodes_room fit.flows_room _ _ done)
-    (after_small _ _ _ _ _ _ fit.nodes_room fit.flows_room _ _ done)).0
+    parts _ (settled_firsts v s _ _ (on_ok c.spread.result c.spread.ensures.settled (c.spread.ensures.fits.1 (fits_first _ _ _ _ _ _ fit.nodes_room fit.flows_room fit)))).0
 
 pub returns : goal.returns
 returns c =
     let v = view c.args.self in
     let s = sound c.args.self in
     let fit = fitting v s in
-    let first = fits_first v.nodes v.flows v.steps v.node_count v.flow_count v.workspace fit.nodes_room fit.flows_room fit in
-    let done = on_ok c.spread.result c.spread.ensures.settled (c.spread.ensures.fits.1 first) in
-    let all = settled_again v s _ _ _ (after_long _ _ _ _ _ _ fit.nodes_room fit.flows_room _ _ done) done.words_long (after_past _ _ _ _ _ _ fit.nodes_room fit.flows_room _ _ done) refl
-    (after_same _ _ _ _ _ _ fit.nodes_room fit.flows_room _ _ done) (after_certified _ _ _ _ _ _ fit.nodes_room fit.flows_room _ _ done)
-    (after_small _ _ _ _ _ _ fit.nodes_room fit.flows_room _ _ done) in
+    let all = settled_firsts v s _ _ (on_ok c.spread.result c.spread.ensures.settled (c.spread.ensures.fits.1 (fits_first _ _ _ _ _ _ fit.nodes_room fit.flows_room fit))) in
     record { ledger = all.1; labels = all.2; rest = all.3; nodes_lent = refl; flows_lent = refl; workspace_lent = refl }
