@@ -5,36 +5,27 @@ use Rattle.flows.specs.declared.records.NodeRecord.{NodeRecord}
 use Rattle.flows.specs.declared.records.FlowRecord.{FlowRecord}
 use Rattle.flows.specs.Graph.{graph, holds, no_node, no_flow, through, relabeled}
 use Rattle.flows.specs.Certificate.{distance, Near}
-use Rattle.flows.specs.Rounds.{Spread, Led, Grown, Aimed}
+use Rattle.flows.specs.Rounds.{Spread, Led, Grown}
 use Rattle.std.proofs.lemmas.List.{length-set}
 use lib.Pow.{shr_le}
 use lib.Count.{count_trailing_zeros}
 use Rattle.flows.proofs.Sets.{with_value, none_in, has_below, trailing_some, trailing_none}
-use Rattle.flows.proofs.Puts.{Put, label_new, next_new, put_made}
+use Rattle.flows.proofs.Puts.{Put, label_new, put_made}
 use Rattle.flows.proofs.Spreads.{put_spread, led_kept, fitting_kept, grown_more, grown_put}
 
 -- the values below `value` are led on, and `rest` has the others
 pub record Leading (start ns : List NodeRecord) (fl : List FlowRecord) (rw' : List (List ℕ)) (N F : ℕ) (W₀ W fresh next₀ next : List ℕ)
-    (d number value rest added : ℕ) : Type 0 where
+    (d number value rest : ℕ) : Type 0 where
   pub spread : Spread (graph ns fl rw' N F) W fresh next d
   pub led : Led (graph ns fl rw' N F) W fresh d number value
-  pub grown : Grown N start ns W₀ W next₀ next added
-  pub aimed : Aimed next₀ next (get_or fl number no_flow).to added
+  pub grown : Grown N start ns W₀ W next₀ next
+  pub fits : get_or fresh (get_or fl number no_flow).«from» 0 < 2 ^ 64
   pub within : value ≤ 64
   pub left : rest ≡ get_or fresh (get_or fl number no_flow).«from» 0 / 2 ^ value
 
-aimed_put : {ns ns' : List NodeRecord} {W W' next₀ next next' : List ℕ} {b y d a added : ℕ} → Put ns ns' W W' next next' b y d a
-    → Aimed next₀ next b added → Aimed next₀ next' b (added + 1)
-aimed_put p aimed = record {
-  elsewhere = λ n ne. p.next_other n ne ∙ aimed.elsewhere n ne;
-  stays = λ _ z. none_in _ _ z (next_new p);
-  lands = λ _ z. none_in _ _ z (next_new p);
-}
-
 module _ (start ns : List NodeRecord) (fl : List FlowRecord) (rw' : List (List ℕ)) (N F : ℕ) (W₀ W fresh next₀ next : List ℕ)
-    (d number value rest added : ℕ)
-    (fits : get_or fresh (get_or fl number no_flow).«from» 0 < 2 ^ 64)
-    (lead : Leading start ns fl rw' N F W₀ W fresh next₀ next d number value rest added) where
+    (d number value rest : ℕ)
+    (lead : Leading start ns fl rw' N F W₀ W fresh next₀ next d number value rest) where
   -- the bit of a later value
   bit_left : (w : ℕ) → value ≤ w → get_or fresh (get_or fl number no_flow).«from» 0 / 2 ^ w % 2 ≡ rest / 2 ^ (w - value) % 2
   bit_left w l =
@@ -59,7 +50,7 @@ module _ (start ns : List NodeRecord) (fl : List FlowRecord) (rw' : List (List �
   -- the next value that is led on
   module _ (more : 0 < rest) where
     small : rest < 2 ^ 64
-    small = omega (arith, fits, lead.left, shr_le (get_or fresh (get_or fl number no_flow).«from» 0) value)
+    small = omega (arith, lead.fits, lead.left, shr_le (get_or fresh (get_or fl number no_flow).«from» 0) value)
 
     lead_has : holds (get_or fresh (get_or fl number no_flow).«from» 0) (value + count_trailing_zeros 64 rest)
     lead_has =
@@ -67,7 +58,7 @@ module _ (start ns : List NodeRecord) (fl : List FlowRecord) (rw' : List (List �
         bit_left (value + count_trailing_zeros 64 rest) (omega arith) ∙ ap (λ k. rest / 2 ^ k % 2) there ∙ trailing_some 64 rest more small
 
     pub lead_within : value + count_trailing_zeros 64 rest < 64
-    lead_within = has_below _ _ 64 fits lead_has
+    lead_within = has_below _ _ 64 lead.fits lead_has
 
     -- all up to it are led on, if it is
     led_upto : (holds (get_or fresh (get_or fl number no_flow).«from» 0) (value + count_trailing_zeros 64 rest)
@@ -90,15 +81,15 @@ module _ (start ns : List NodeRecord) (fl : List FlowRecord) (rw' : List (List �
         ∙ shr-shr _ (value + count_trailing_zeros 64 rest) 1
 
     -- the value that it makes is 0, or is there
-    lead_none : number < F
+    pub lead_none : number < F
         → (through (graph ns fl rw' N F) number (value + count_trailing_zeros 64 rest) ≢ 0
         → holds (get_or ns (get_or fl number no_flow).to no_node).label (through (graph ns fl rw' N F) number (value + count_trailing_zeros 64 rest)))
-        → Leading start ns fl rw' N F W₀ W fresh next₀ next d number (value + count_trailing_zeros 64 rest + 1) (rest / 2 ^ count_trailing_zeros 64 rest / 2) added
+        → Leading start ns fl rw' N F W₀ W fresh next₀ next d number (value + count_trailing_zeros 64 rest + 1) (rest / 2 ^ count_trailing_zeros 64 rest / 2)
     lead_none lf there = record {
       spread = lead.spread;
       led = led_upto (λ h some. near _ _ (lead.spread.fit.joined number lf).1 (lead.spread.fit.bounded _ _) (there some));
       grown = lead.grown;
-      aimed = lead.aimed;
+      fits = lead.fits;
       within = omega (arith, lead_within);
       left = lead_left;
     }
@@ -118,21 +109,21 @@ module _ (start ns : List NodeRecord) (fl : List FlowRecord) (rw' : List (List �
         → through (graph ns fl rw' N F) number (value + count_trailing_zeros 64 rest) ≢ 0
         → (holds (get_or ns (get_or fl number no_flow).to no_node).label (through (graph ns fl rw' N F) number (value + count_trailing_zeros 64 rest)) → ⊥)
         → number < F → (get_or ns (get_or fl number no_flow).to no_node).verified ≡ false
-        → Leading start ns' fl rw' N F W₀ W' fresh next₀ next' d number (value + count_trailing_zeros 64 rest + 1) (rest / 2 ^ count_trailing_zeros 64 rest / 2) (added + 1)
+        → Leading start ns' fl rw' N F W₀ W' fresh next₀ next' d number (value + count_trailing_zeros 64 rest + 1) (rest / 2 ^ count_trailing_zeros 64 rest / 2)
     lead_put ns' W' next' a p is long_ns long_W long_next some new lf open_end = record {
       spread =
           let was = lead.spread.fresh_is _ _ (lead.spread.fit.joined number lf).0 lead_within lead_has in
           put_spread ns ns' fl rw' N F W W' fresh next next' (get_or fl number no_flow).to _ d a p new
-          number (value + count_trailing_zeros 64 rest) (fitting_kept ns ns' fl rw' N F W W' long_ns long_W lead.spread.fit) (omega (arith, lead.spread.next_room))
+          number (value + count_trailing_zeros 64 rest) (fitting_kept ns ns' fl rw' N F W W' long_ns long_W lead.spread.fit) (long_next ∙ lead.spread.next_long)
           (lead.spread.fit.joined number lf).1 (lead.spread.fit.bounded _ _) some open_end lf refl lead_within was.0 was.1 refl is lead.spread;
       led = λ w lw h some' open'. go w lw h some' open' (dec_lt w (value + count_trailing_zeros 64 rest));
       grown = grown_more lead.grown grown_here;
-      aimed = aimed_put p lead.aimed;
+      fits = lead.fits;
       within = omega (arith, lead_within);
       left = lead_left;
     }
       where
-        grown_here : Grown N ns ns' W W' next next' 1
+        grown_here : Grown N ns ns' W W' next next'
         grown_here = grown_put p new N (lead.spread.fit.joined number lf).1 (lead.spread.fit.bounded _ _)
 
         -- before the value is put, all below it are led on
@@ -144,39 +135,25 @@ module _ (start ns : List NodeRecord) (fl : List FlowRecord) (rw' : List (List �
             → through (graph ns fl rw' N F) number w ≢ 0 → (get_or ns' (get_or fl number no_flow).to no_node).verified ≡ false → Dec (w < value + count_trailing_zeros 64 rest)
             → Near (graph ns' fl rw' N F) W' (get_or fl number no_flow).to (through (graph ns fl rw' N F) number w) (suc d)
         go w lw h some' open' (yes l) =
-            led_kept ns ns' fl rw' N F W W' fresh next next' d 1 number (value + count_trailing_zeros 64 rest) lead.spread.fit.bounded grown_here before w l h some' open'
+            led_kept ns ns' fl rw' N F W W' fresh next next' d number (value + count_trailing_zeros 64 rest) lead.spread.fit.bounded grown_here before w l h some' open'
         go w lw h some' open' (no l) =
             let here : value + count_trailing_zeros 64 rest ≡ w = omega arith in
             subst (λ u. Near (graph ns' fl rw' N F) W' (get_or fl number no_flow).to (through (graph ns fl rw' N F) number u) (suc d)) here
             (label_new p, omega (arith, p.distance_here))
 
     -- the same, of the lists that a call left
-    pub lead_made : (ns' : List NodeRecord) (W' next' : List ℕ) (added' : ℕ) → let made = through (graph ns fl rw' N F) number (value + count_trailing_zeros 64 rest) in
+    pub lead_made : (ns' : List NodeRecord) (W' next' : List ℕ) → let made = through (graph ns fl rw' N F) number (value + count_trailing_zeros 64 rest) in
         ns' ≡ set ns (get_or fl number no_flow).to (relabeled (get_or ns (get_or fl number no_flow).to no_node) (with_value (get_or ns (get_or fl number no_flow).to no_node).label made))
         → next' ≡ set next (get_or fl number no_flow).to (with_value (get_or next (get_or fl number no_flow).to 0) made)
         → W' ≡ set (set W (128 * (get_or fl number no_flow).to + made) (d + 1)) (128 * (get_or fl number no_flow).to + 64 + made) (64 * number + (value + count_trailing_zeros 64 rest))
-        → added' ≡ added + 1
         → made ≢ 0 → (holds (get_or ns (get_or fl number no_flow).to no_node).label made → ⊥) → number < F
         → (get_or ns (get_or fl number no_flow).to no_node).verified ≡ false
-        → Leading start ns' fl rw' N F W₀ W' fresh next₀ next' d number (value + count_trailing_zeros 64 rest + 1) (rest / 2 ^ count_trailing_zeros 64 rest / 2) added'
-    lead_made ns' W' next' added' is_nodes is_next is_words is_added some new lf open_end =
+        → Leading start ns' fl rw' N F W₀ W' fresh next₀ next' d number (value + count_trailing_zeros 64 rest + 1) (rest / 2 ^ count_trailing_zeros 64 rest / 2)
+    lead_made ns' W' next' is_nodes is_next is_words some new lf open_end =
         let fit = lead.spread.fit in
         let lb = (fit.joined number lf).1 in
-        subst (λ k. Leading start ns' fl rw' N F W₀ W' fresh next₀ next' d number (value + count_trailing_zeros 64 rest + 1) (rest / 2 ^ count_trailing_zeros 64 rest / 2) k) (sym is_added)
-        (lead_put ns' W' next' _
-        (put_made ns ns' W W' next next' _ _ d _ (omega (arith, lb, fit.nodes_room)) (omega (arith, lb, lead.spread.next_room)) (omega (arith, lb, fit.words_room))
+        lead_put ns' W' next' _
+        (put_made ns ns' W W' next next' _ _ d _ (omega (arith, lb, fit.nodes_room)) (omega (arith, lb, fit.few_nodes, lead.spread.next_long)) (omega (arith, lb, fit.words_room))
         (fit.bounded _ _) is_nodes is_next is_words)
         refl (ap length is_nodes ∙ length-set _ _ _) (ap length is_words ∙ length-set _ _ _ ∙ length-set _ _ _) (ap length is_next ∙ length-set _ _ _)
-        some new lf open_end)
-
-    -- the same, of lists that were left as they were
-    pub lead_left_out : (ns' : List NodeRecord) (W' next' : List ℕ) (added' : ℕ) → ns' ≡ ns → next' ≡ next → W' ≡ W → added' ≡ added → number < F
-        → (through (graph ns fl rw' N F) number (value + count_trailing_zeros 64 rest) ≢ 0
-        → holds (get_or ns (get_or fl number no_flow).to no_node).label (through (graph ns fl rw' N F) number (value + count_trailing_zeros 64 rest)))
-        → Leading start ns' fl rw' N F W₀ W' fresh next₀ next' d number (value + count_trailing_zeros 64 rest + 1) (rest / 2 ^ count_trailing_zeros 64 rest / 2) added'
-    lead_left_out ns' W' next' added' is_nodes is_next is_words is_added lf there =
-        subst (λ x. Leading start x fl rw' N F W₀ W' fresh next₀ next' d number (value + count_trailing_zeros 64 rest + 1) (rest / 2 ^ count_trailing_zeros 64 rest / 2) added') (sym is_nodes)
-        (subst (λ x. Leading start ns fl rw' N F W₀ W' fresh next₀ x d number (value + count_trailing_zeros 64 rest + 1) (rest / 2 ^ count_trailing_zeros 64 rest / 2) added') (sym is_next)
-        (subst (λ x. Leading start ns fl rw' N F W₀ x fresh next₀ next d number (value + count_trailing_zeros 64 rest + 1) (rest / 2 ^ count_trailing_zeros 64 rest / 2) added') (sym is_words)
-        (subst (λ k. Leading start ns fl rw' N F W₀ W fresh next₀ next d number (value + count_trailing_zeros 64 rest + 1) (rest / 2 ^ count_trailing_zeros 64 rest / 2) k) (sym is_added)
-        (lead_none lf there))))
+        some new lf open_end

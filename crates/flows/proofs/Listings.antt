@@ -1,9 +1,22 @@
--- The nodes whose sets of values are not empty, in a list.
-use Rattle.std.proofs.Common.{◌≡◌, ℕ, zero, suc, ◌+◌, ◌<◌, ◌≤◌, ◌≢◌, ◌⊎◌, List, length, get_or, set, sym, refl, ap, ◌∙◌, subst, ⊎_elim, add-one, arith}
-use native.Mathlib.Decide.{ℕ_discrete}
-use Rattle.std.proofs.lemmas.List.{get_or-set_same, get_or-set_other}
-use Rattle.flows.specs.Rounds.{Listed, Aimed, some, sum_below}
-use Rattle.flows.proofs.Sums.{sum_same, sum_more, sum_bound}
+-- The sets of the nodes, and the list of the nodes that have any values.
+use Rattle.std.proofs.Common.{◌≡◌, ℕ, zero, suc, ◌+◌, ◌-◌, ◌<◌, ◌≤◌, ◌≢◌, ◌⊎◌, List, [], ◌∷◌, ◌++◌, length, get_or, take, drop, set, sum, sum_by, bit_or, replicate, ⊎_elim, sym, refl, ap, ◌∙◌, subst, inl, inr, arith, below_more}
+use native.Mathlib.Decide.{dec_lt, ℕ_discrete}
+use Rattle.std.proofs.lemmas.List.{get_or-set_same, get_or-set_other, get_or_past, get_or_append_left, get_or-append_right, get_or-drop, length-append, length-drop, length-set, length-replicate}
+use lib.Bits.{or_zero_l, or_self}
+use Rattle.std.proofs.Math.Seq.{get_or-append_seam}
+use Rattle.std.proofs.lemmas.List.Sums.{sum_by-cons, sum_by-set}
+use Rattle.flows.specs.Fronts.{some, Empty, Lists, Listed}
+use Rattle.flows.specs.Rounds.{Cleared}
+
+-- a list with zeros alone
+pub sum_none : (xs : List ℕ) → ((n : ℕ) → get_or xs n 0 ≡ 0) → sum xs ≡ 0
+sum_none [] none = refl
+sum_none (x ∷ xs) none = sum_by-cons (λ y. y) x xs ∙ omega (arith, none 0, sum_none xs (λ n. none (suc n)))
+
+pub none_of_sum : (xs : List ℕ) → sum xs ≡ 0 → (n : ℕ) → get_or xs n 0 ≡ 0
+none_of_sum [] e n = refl
+none_of_sum (x ∷ xs) e zero = omega (arith, sum_by-cons (λ y. y) x xs)
+none_of_sum (x ∷ xs) e (suc n) = none_of_sum xs (omega (arith, sum_by-cons (λ y. y) x xs)) n
 
 some_one : (s : ℕ) → s ≢ 0 → some s ≡ 1
 some_one zero ne = absurd (ne refl)
@@ -13,164 +26,164 @@ some_none : (s : ℕ) → s ≡ 0 → some s ≡ 0
 some_none zero e = refl
 some_none (suc s) e = absurd (omega arith)
 
-some_most : (s : ℕ) → some s ≤ 1
-some_most zero = omega arith
-some_most (suc s) = omega arith
+some_most : (xs : List ℕ) → sum_by some xs ≤ length xs
+some_most [] = omega arith
+some_most (zero ∷ xs) = omega (arith, sum_by-cons some zero xs, some_most xs)
+some_most (suc x ∷ xs) = omega (arith, sum_by-cons some (suc x) xs, some_most xs)
 
-sum_none : (g : ℕ → ℕ) (k : ℕ) → ((i : ℕ) → i < k → g i ≡ 0) → sum_below k g ≡ 0
-sum_none g zero none = refl
-sum_none g (suc k) none = omega (arith, sum_none g k (λ i l. none i (omega arith)), none k (omega arith))
+some_sum_none : (xs : List ℕ) → ((n : ℕ) → get_or xs n 0 ≡ 0) → sum_by some xs ≡ 0
+some_sum_none [] none = refl
+some_sum_none (x ∷ xs) none = omega (arith, sum_by-cons some x xs, some_none x (none 0), some_sum_none xs (λ n. none (suc n)))
 
-pub listed_none : (k : ℕ) (sets list : List ℕ) → ((n : ℕ) → n < k → get_or sets n 0 ≡ 0) → Listed k sets list 0
-listed_none k sets list none = record {
-  few = sym (sum_none (λ n. some (get_or sets n 0)) k (λ n l. some_none _ (none n l)));
-  there = λ n l ne. absurd (ne (none n l));
-  within = λ j l. absurd (omega arith);
+pub lists_none : (sets : List ℕ) → Empty sets → Listed sets []
+lists_none sets empty = record {
+  lists = record { long = empty.long; there = λ n ne. absurd (ne (empty.none n)); within = λ j lj. absurd (omega arith) };
+  once = sym (some_sum_none sets empty.none);
 }
 
-pub listed_empty : (k : ℕ) (sets list : List ℕ) (count : ℕ) → Listed k sets list count → ((n : ℕ) → n < k → get_or sets n 0 ≡ 0) → count ≡ 0
-listed_empty k sets list count l none = l.few ∙ sum_none (λ n. some (get_or sets n 0)) k (λ n ln. some_none _ (none n ln))
-
-pub listed_all : (k : ℕ) (sets list : List ℕ) (count : ℕ) → Listed k sets list count → count ≡ 0 → (n : ℕ) → n < k → get_or sets n 0 ≡ 0
-listed_all k sets list count l none n ln = go (ℕ_discrete (get_or sets n 0) 0)
+-- a listed node is one of the nodes
+pub listed_within : (sets nodes : List ℕ) → Lists sets nodes → (j : ℕ) → j < length nodes → get_or nodes j 0 < 4096
+listed_within sets nodes l j lj = go (dec_lt (get_or nodes j 0) 4096)
   where
-    go : Dec (get_or sets n 0 ≡ 0) → get_or sets n 0 ≡ 0
-    go (yes e) = e
-    go (no ne) = absurd (omega (arith, (l.there n ln ne).1))
+    go : Dec (get_or nodes j 0 < 4096) → get_or nodes j 0 < 4096
+    go (yes less) = less
+    go (no more) = absurd (l.within j lj (get_or_past sets (get_or nodes j 0) 0 (omega (arith, l.long))))
 
-pub listed_most : (k : ℕ) (sets list : List ℕ) (count : ℕ) → Listed k sets list count → count ≤ k
-listed_most k sets list count l = omega (arith, l.few, sum_bound (λ n. some (get_or sets n 0)) k 1 (λ n _. some_most (get_or sets n 0)))
+module _ (sets nodes : List ℕ) (n s : ℕ) (l : Listed sets nodes) (room : n < 4096) where
+  here : get_or (set sets n s) n 0 ≡ s
+  here = get_or-set_same sets n s 0 (omega (arith, l.lists.long))
 
--- nothing to list
-pub listed_kept : (k : ℕ) (next next' list : List ℕ) (count to added : ℕ) → Listed k next list count → Aimed next next' to added
-    → (next' ≡ next) ⊎ (get_or next to 0 ≢ 0) → Listed k next' list count
-listed_kept k next next' list count to added l aimed which = ⊎_elim
-    (λ same. subst (λ x. Listed k x list count) (sym same) l)
-    (λ had. record {
-      few = l.few ∙ sym (sum_same (λ n. some (get_or next n 0)) (λ n. some (get_or next' n 0)) k (λ n _. each had n (ℕ_discrete n to)));
-      there = λ n ln ne. found had n ln ne (ℕ_discrete n to);
-      within = l.within;
-    }) which
-  where
-    each : get_or next to 0 ≢ 0 → (n : ℕ) → Dec (n ≡ to) → some (get_or next' n 0) ≡ some (get_or next n 0)
-    each had n (yes e) = subst (λ m. some (get_or next' m 0) ≡ some (get_or next m 0)) (sym e) (some_one _ (aimed.stays had) ∙ sym (some_one _ had))
-    each had n (no ne) = ap some (aimed.elsewhere n ne)
+  other : (m : ℕ) → m ≢ n → get_or (set sets n s) m 0 ≡ get_or sets m 0
+  other m ne = get_or-set_other sets n m s 0 ne
 
-    found : get_or next to 0 ≢ 0 → (n : ℕ) → n < k → get_or next' n 0 ≢ 0 → Dec (n ≡ to) → (j : ℕ) × (j < count) × (get_or list j 0 ≡ n)
-    found had n ln ne (yes e) = l.there n ln (λ z. had (sym (ap (λ m. get_or next m 0) e) ∙ z))
-    found had n ln ne (no o) = l.there n ln (λ z. ne (aimed.elsewhere n o ∙ z))
+  total : sum_by some (set sets n s) + some (get_or sets n 0) ≡ sum_by some sets + some s
+  total = sum_by-set some sets n s 0 (omega (arith, l.lists.long))
 
--- one more node
-module _ (k : ℕ) (next next' list : List ℕ) (count to added : ℕ) (l : Listed k next list count) (aimed : Aimed next next' to added)
-    (had : get_or next to 0 ≡ 0) (has_now : added ≢ 0) (within_k : to < k) where
-  sum_now : sum_below k (λ n. some (get_or next' n 0)) ≡ suc (sum_below k (λ n. some (get_or next n 0)))
-  sum_now = sum_more (λ n. some (get_or next n 0)) (λ n. some (get_or next' n 0)) k to within_k
-      (some_one _ (aimed.lands has_now) ∙ ap suc (sym (some_none _ had))) (λ n ne. ap some (aimed.elsewhere n ne))
-
-  pub listed_room : count < k
-  listed_room = omega (arith, l.few, sum_now, sum_bound (λ n. some (get_or next' n 0)) k 1 (λ n _. some_most (get_or next' n 0)))
-
-  pub listed_more : count < length list → Listed k next' (set list count to) (count + 1)
-  listed_more room = record {
-    few = omega (arith, l.few, sum_now);
-    there = λ n ln ne. found n ln ne (ℕ_discrete n to);
-    within = λ j lj. inside j lj (ℕ_discrete j count);
+  -- the set of a node that is listed, or that stays empty
+  pub listed_kept : (get_or sets n 0 ≢ 0 → s ≢ 0) → (get_or sets n 0 ≡ 0 → s ≡ 0) → Listed (set sets n s) nodes
+  listed_kept stays none = record {
+    lists = record { long = length-set sets n s ∙ l.lists.long; there = λ m ne. found m ne (ℕ_discrete m n); within = λ j lj z. inside j lj z (ℕ_discrete (get_or nodes j 0) n) };
+    once = count (ℕ_discrete (get_or sets n 0) 0);
   }
     where
-      found : (n : ℕ) → n < k → get_or next' n 0 ≢ 0 → Dec (n ≡ to) → (j : ℕ) × (j < count + 1) × (get_or (set list count to) j 0 ≡ n)
-      found n ln ne (yes e) = (count, omega arith, get_or-set_same list count to 0 room ∙ sym e)
-      found n ln ne (no o) =
-          let was = l.there n ln (λ z. ne (aimed.elsewhere n o ∙ z)) in
-          let below = was.1 in
-          let other : was.0 ≢ count = λ e. omega (arith, below, e) in
-          (was.0, omega (arith, below), get_or-set_other list count was.0 to 0 other ∙ was.2)
+      found : (m : ℕ) → get_or (set sets n s) m 0 ≢ 0 → Dec (m ≡ n) → (j : ℕ) × (j < length nodes) × (get_or nodes j 0 ≡ m)
+      found m ne (yes e) = l.lists.there m (λ z. ne (ap (λ k. get_or (set sets n s) k 0) e ∙ here ∙ none (sym (ap (λ k. get_or sets k 0) e) ∙ z)))
+      found m ne (no o) = l.lists.there m (λ z. ne (other m o ∙ z))
 
-      inside : (j : ℕ) → j < count + 1 → Dec (j ≡ count) → get_or (set list count to) j 0 < k
-      inside j lj (yes e) = subst (λ m. get_or (set list count to) m 0 < k) (sym e) (omega (arith, get_or-set_same list count to 0 room))
-      inside j lj (no ne) = omega (arith, l.within j (omega arith), get_or-set_other list count j to 0 ne)
+      inside : (j : ℕ) → j < length nodes → get_or (set sets n s) (get_or nodes j 0) 0 ≡ 0 → Dec (get_or nodes j 0 ≡ n) → ⊥
+      inside j lj z (yes e) = stays (λ was. l.lists.within j lj (ap (λ k. get_or sets k 0) e ∙ was)) (sym here ∙ sym (ap (λ k. get_or (set sets n s) k 0) e) ∙ z)
+      inside j lj z (no o) = l.lists.within j lj (sym (other _ o) ∙ z)
 
--- one more set, at the end
-set_kept : (sets : List ℕ) (k s n : ℕ) → n < k → get_or (set sets k s) n 0 ≡ get_or sets n 0
-set_kept sets k s n l = let ne : n ≢ k = omega arith in get_or-set_other sets k n s 0 ne
+      count : Dec (get_or sets n 0 ≡ 0) → length nodes ≡ sum_by some (set sets n s)
+      count (yes z) = omega (arith, l.once, total, some_none _ z, some_none _ (none z))
+      count (no ne) = omega (arith, l.once, total, some_one _ ne, some_one _ (stays ne))
 
-pub listed_skip : (k : ℕ) (sets list : List ℕ) (count s : ℕ) → Listed k sets list count → k < length sets → s ≡ 0
-    → Listed (k + 1) (set sets k s) list count
-listed_skip k sets list count s l room none = record {
-  few = subst (λ m. count ≡ sum_below m (λ n. some (get_or (set sets k s) n 0))) (sym (add-one k))
-      (omega (
-        arith,
-        l.few,
-        sum_same (λ n. some (get_or sets n 0)) (λ n. some (get_or (set sets k s) n 0)) k (λ n ln. ap some (set_kept sets k s n ln)),
-        some_none (get_or (set sets k s) k 0) (get_or-set_same sets k s 0 room ∙ none),
-      ));
-  there = λ n ln ne. found n ln ne (ℕ_discrete n k);
-  within = λ j lj. omega (arith, l.within j lj);
+  -- one more node
+  module _ (was : get_or sets n 0 ≡ 0) (now : s ≢ 0) where
+    once_more : sum_by some (set sets n s) ≡ suc (sum_by some sets)
+    once_more = omega (arith, total, some_none _ was, some_one _ now)
+
+    pub listed_room : length nodes < 4096
+    listed_room = omega (arith, l.once, once_more, some_most (set sets n s), length-set sets n s, l.lists.long)
+
+    pub listed_more : Listed (set sets n s) (nodes ++ n ∷ [])
+    listed_more = record {
+      lists = record { long = length-set sets n s ∙ l.lists.long; there = λ m ne. found m ne (ℕ_discrete m n); within = λ j lj z. inside j lj z (ℕ_discrete j (length nodes)) };
+      once = omega (arith, length-append nodes (n ∷ []), l.once, once_more);
+    }
+      where
+        last : get_or (nodes ++ n ∷ []) (length nodes) 0 ≡ n
+        last = get_or-append_seam nodes n [] 0
+
+        found : (m : ℕ) → get_or (set sets n s) m 0 ≢ 0 → Dec (m ≡ n) → (j : ℕ) × (j < length (nodes ++ n ∷ [])) × (get_or (nodes ++ n ∷ []) j 0 ≡ m)
+        found m ne (yes e) = (length nodes, omega (arith, length-append nodes (n ∷ [])), last ∙ sym e)
+        found m ne (no o) =
+            let old = l.lists.there m (λ z. ne (other m o ∙ z)) in
+            let below = old.1 in
+            (old.0, omega (arith, below, length-append nodes (n ∷ [])), get_or_append_left nodes (n ∷ []) 0 old.0 below ∙ old.2)
+
+        inside : (j : ℕ) → j < length (nodes ++ n ∷ []) → get_or (set sets n s) (get_or (nodes ++ n ∷ []) j 0) 0 ≡ 0 → Dec (j ≡ length nodes) → ⊥
+        inside j lj z (yes e) = now (sym here ∙ sym (ap (λ k. get_or (set sets n s) k 0) (ap (λ k. get_or (nodes ++ n ∷ []) k 0) e ∙ last)) ∙ z)
+        inside j lj z (no o) =
+            let below : j < length nodes = omega (arith, length-append nodes (n ∷ [])) in
+            let same = get_or_append_left nodes (n ∷ []) 0 j below in
+            let apart : get_or nodes j 0 ≢ n = λ e. l.lists.within j below (ap (λ k. get_or sets k 0) e ∙ was) in
+            l.lists.within j below (sym (other _ apart) ∙ sym (ap (λ k. get_or (set sets n s) k 0) same) ∙ z)
+
+-- a list that has the default alone
+pub same_reads : {X : Type 0} (d : X) (k n : ℕ) → get_or (replicate k d) n d ≡ d
+same_reads d zero n = refl
+same_reads d (suc k) zero = refl
+same_reads d (suc k) (suc n) = same_reads d k n
+
+pub front_reads : {X : Type 0} (d : X) (xs : List X) → ((n : ℕ) → get_or xs n d ≡ d) → (k n : ℕ) → get_or (take k xs) n d ≡ d
+front_reads d xs none zero n = refl
+front_reads d [] none (suc k) n = refl
+front_reads d (x ∷ xs) none (suc k) zero = none 0
+front_reads d (x ∷ xs) none (suc k) (suc n) = front_reads d xs (λ m. none (suc m)) k n
+
+pub empty_zeros : Empty (replicate 4096 0)
+empty_zeros = record { long = length-replicate {A = ℕ} 4096 0; none = same_reads 0 4096 }
+
+-- a list whose first part was filled with zeros
+pub cleared : (k : ℕ) (before front : List ℕ) → k ≤ length before → front ≡ replicate k 0 → Cleared k before (front ++ drop k before)
+cleared k before front fits is = record {
+  below = λ i l. get_or_append_left front (drop k before) 0 i (omega (arith, front_long)) ∙ ap (λ xs. get_or xs i 0) is ∙ same_reads 0 k i;
+  past = λ i l. get_or-append_right front (drop k before) k i 0 front_long l ∙ get_or-drop k before (i - k) 0 ∙ ap (λ j. get_or before j 0) (back i l);
+  long = omega (arith, length-append front (drop k before), length-drop k before, front_long);
 }
   where
-    found : (n : ℕ) → n < k + 1 → get_or (set sets k s) n 0 ≢ 0 → Dec (n ≡ k) → (j : ℕ) × (j < count) × (get_or list j 0 ≡ n)
-    found n ln ne (yes e) = absurd (ne (ap (λ m. get_or (set sets k s) m 0) e ∙ get_or-set_same sets k s 0 room ∙ none))
-    found n ln ne (no o) = l.there n (omega arith) (λ z. ne (set_kept sets k s n (omega arith) ∙ z))
+    front_long : length front ≡ k
+    front_long = ap length is ∙ length-replicate k 0
 
-pub listed_next : (k : ℕ) (sets list : List ℕ) (count s : ℕ) → Listed k sets list count → k < length sets → k < length list → s ≢ 0
-    → Listed (k + 1) (set sets k s) (set list count k) (count + 1)
-listed_next k sets list count s l room list_room more = record {
-  few = subst (λ m. count + 1 ≡ sum_below m (λ n. some (get_or (set sets k s) n 0))) (sym (add-one k))
-      (omega (
-        arith,
-        l.few,
-        sum_same (λ n. some (get_or sets n 0)) (λ n. some (get_or (set sets k s) n 0)) k (λ n ln. ap some (set_kept sets k s n ln)),
-        some_one (get_or (set sets k s) k 0) (λ z. more (sym (get_or-set_same sets k s 0 room) ∙ z)),
-      ));
-  there = λ n ln ne. found n ln ne (ℕ_discrete n k);
-  within = λ j lj. inside j lj (ℕ_discrete j count);
+    back : (i : ℕ) → k ≤ i → k + (i - k) ≡ i
+    back i l = omega arith
+
+-- the sets that are listed before place i are emptied
+pub record Clearing (before sets nodes : List ℕ) (i : ℕ) : Type 0 where
+  pub long : length sets ≡ 4096
+  pub done : (j : ℕ) → j < i → get_or sets (get_or nodes j 0) 0 ≡ 0
+  pub others : (n : ℕ) → get_or before n 0 ≡ 0 → get_or sets n 0 ≡ 0
+
+pub clearing_end : (before sets nodes : List ℕ) (i : ℕ) → Listed before nodes → length nodes ≤ i → Clearing before sets nodes i → Empty sets
+clearing_end before sets nodes i l all c = record { long = c.long; none = λ n. go n (ℕ_discrete (get_or before n 0) 0) }
+  where
+    go : (n : ℕ) → Dec (get_or before n 0 ≡ 0) → get_or sets n 0 ≡ 0
+    go n (yes z) = c.others n z
+    go n (no ne) =
+        let at = l.lists.there n ne in
+        let below = at.1 in
+        sym (ap (λ k. get_or sets k 0) at.2) ∙ c.done at.0 (omega (arith, below))
+
+-- the sets that are listed before place i are taken
+pub record Taking (own other nodes : List ℕ) (i : ℕ) : Type 0 where
+  pub long : length own ≡ 4096
+  pub done : (j : ℕ) → j < i → get_or own (get_or nodes j 0) 0 ≡ get_or other (get_or nodes j 0) 0
+  pub either : (n : ℕ) → (get_or own n 0 ≡ 0) ⊎ (get_or own n 0 ≡ get_or other n 0)
+
+pub taking_more : (own other nodes : List ℕ) (i : ℕ) → get_or nodes i 0 < 4096 → Taking own other nodes i
+    → Taking (set own (get_or nodes i 0) (bit_or (get_or own (get_or nodes i 0) 0) (get_or other (get_or nodes i 0) 0))) other nodes (i + 1)
+taking_more own other nodes i room t = record {
+  long = length-set own m s ∙ t.long;
+  done = below_more (λ j. get_or (set own m s) (get_or nodes j 0) 0 ≡ get_or other (get_or nodes j 0) 0) i (λ j lj. go (get_or nodes j 0) (t.done j lj) (ℕ_discrete (get_or nodes j 0) m)) here;
+  either = λ n. which n (ℕ_discrete n m);
 }
   where
-    count_room : count < length list
-    count_room = omega (arith, listed_most k sets list count l)
+    m : ℕ
+    m = get_or nodes i 0
 
-    found : (n : ℕ) → n < k + 1 → get_or (set sets k s) n 0 ≢ 0 → Dec (n ≡ k) → (j : ℕ) × (j < count + 1) × (get_or (set list count k) j 0 ≡ n)
-    found n ln ne (yes e) = (count, omega arith, get_or-set_same list count k 0 count_room ∙ sym e)
-    found n ln ne (no o) =
-        let was = l.there n (omega arith) (λ z. ne (set_kept sets k s n (omega arith) ∙ z)) in
-        let below = was.1 in
-        let other : was.0 ≢ count = λ e. omega (arith, below, e) in
-        (was.0, omega (arith, below), get_or-set_other list count was.0 k 0 other ∙ was.2)
+    s : ℕ
+    s = bit_or (get_or own m 0) (get_or other m 0)
 
-    inside : (j : ℕ) → j < count + 1 → Dec (j ≡ count) → get_or (set list count k) j 0 < k + 1
-    inside j lj (yes e) = subst (λ m. get_or (set list count k) m 0 < k + 1) (sym e) (omega (arith, get_or-set_same list count k 0 count_room))
-    inside j lj (no ne) = omega (arith, l.within j (omega arith), get_or-set_other list count j k 0 ne)
+    here : get_or (set own m s) m 0 ≡ get_or other m 0
+    here = get_or-set_same own m s 0 (omega (arith, t.long)) ∙ ⊎_elim
+        (λ z. ap (λ x. bit_or x (get_or other m 0)) z ∙ or_zero_l (get_or other m 0))
+        (λ e. ap (λ x. bit_or x (get_or other m 0)) e ∙ or_self (get_or other m 0)) (t.either m)
 
--- the same list and count under other names
-pub listed_as : (k : ℕ) (sets list list' : List ℕ) (count count' : ℕ) → list' ≡ list → count' ≡ count → Listed k sets list count → Listed k sets list' count'
-listed_as k sets list list' count count' is_list is_count l =
-    subst (λ x. Listed k sets x count') (sym is_list) (subst (λ n. Listed k sets list n) (sym is_count) l)
+    go : (n : ℕ) → get_or own n 0 ≡ get_or other n 0 → Dec (n ≡ m) → get_or (set own m s) n 0 ≡ get_or other n 0
+    go n was (yes e) = subst (λ k. get_or (set own m s) k 0 ≡ get_or other k 0) (sym e) here
+    go n was (no ne) = get_or-set_other own m n s 0 ne ∙ was
 
--- all sets are empty, once those that are listed are
-pub emptied : (k : ℕ) (sets sets' list : List ℕ) (count : ℕ) → Listed k sets list count
-    → ((j : ℕ) → j < count → get_or sets' (get_or list j 0) 0 ≡ 0) → ((n : ℕ) → get_or sets n 0 ≡ 0 → get_or sets' n 0 ≡ 0)
-    → (n : ℕ) → n < k → get_or sets' n 0 ≡ 0
-emptied k sets sets' list count l each others n ln = go (ℕ_discrete (get_or sets n 0) 0)
-  where
-    go : Dec (get_or sets n 0 ≡ 0) → get_or sets' n 0 ≡ 0
-    go (yes e) = others n e
-    go (no ne) = let at = l.there n ln ne in subst (λ m. get_or sets' m 0 ≡ 0) at.2 (each at.0 at.1)
-
--- empty sets become copies of others, once those that are listed are copied
-pub copied : (k : ℕ) (sets sets' source list : List ℕ) (count : ℕ) → Listed k source list count → ((n : ℕ) → n < k → get_or sets n 0 ≡ 0)
-    → ((j : ℕ) → j < count → get_or sets' (get_or list j 0) 0 ≡ get_or source (get_or list j 0) 0)
-    → ((n : ℕ) → get_or source n 0 ≡ 0 → get_or sets n 0 ≡ 0 → get_or sets' n 0 ≡ 0)
-    → (n : ℕ) → n < k → get_or sets' n 0 ≡ get_or source n 0
-copied k sets sets' source list count l none each others n ln = go (ℕ_discrete (get_or source n 0) 0)
-  where
-    go : Dec (get_or source n 0 ≡ 0) → get_or sets' n 0 ≡ get_or source n 0
-    go (yes e) = others n e (none n ln) ∙ sym e
-    go (no ne) = let at = l.there n ln ne in subst (λ m. get_or sets' m 0 ≡ get_or source m 0) at.2 (each at.0 at.1)
-
--- equal sets and equal lists
-pub relisted : (k : ℕ) (sets sets' list list' : List ℕ) (count : ℕ) → Listed k sets list count
-    → ((n : ℕ) → n < k → get_or sets' n 0 ≡ get_or sets n 0) → ((j : ℕ) → j < count → get_or list' j 0 ≡ get_or list j 0) → Listed k sets' list' count
-relisted k sets sets' list list' count l same same_list = record {
-  few = l.few ∙ sym (sum_same (λ n. some (get_or sets n 0)) (λ n. some (get_or sets' n 0)) k (λ n ln. ap some (same n ln)));
-  there = λ n ln ne. let at = l.there n ln (λ z. ne (same n ln ∙ z)) in (at.0, at.1, same_list at.0 at.1 ∙ at.2);
-  within = λ j lj. omega (arith, l.within j lj, same_list j lj);
-}
+    which : (n : ℕ) → Dec (n ≡ m) → (get_or (set own m s) n 0 ≡ 0) ⊎ (get_or (set own m s) n 0 ≡ get_or other n 0)
+    which n (yes e) = inr (subst (λ k. get_or (set own m s) k 0 ≡ get_or other k 0) (sym e) here)
+    which n (no ne) = ⊎_elim (λ z. inl (get_or-set_other own m n s 0 ne ∙ z)) (λ e. inr (get_or-set_other own m n s 0 ne ∙ e)) (t.either n)

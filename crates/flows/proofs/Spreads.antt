@@ -1,5 +1,5 @@
 -- How a round goes on, and how one round follows another.
-use Rattle.std.proofs.Common.{◌≡◌, ℕ, zero, suc, ◌+◌, ◌-◌, ◌*◌, ◌/◌, ◌%◌, ◌^◌, ◌<◌, ◌≤◌, min, false, ◌≢◌, List, [], length, get_or, sym, refl, ap, ◌∙◌, subst, ⊎_elim, add-one, arith}
+use Rattle.std.proofs.Common.{◌≡◌, ℕ, zero, suc, ◌+◌, ◌*◌, ◌/◌, ◌%◌, ◌^◌, ◌<◌, ◌≤◌, min, sum, false, ◌≢◌, List, [], length, get_or, sym, refl, ap, ◌∙◌, subst, ⊎_elim, add-one, arith}
 use native.Mathlib.Decide.{dec_lt, ℕ_discrete}
 use Rattle.flows.specs.declared.records.NodeRecord.{NodeRecord}
 use Rattle.flows.specs.declared.records.FlowRecord.{FlowRecord}
@@ -7,20 +7,21 @@ use Rattle.flows.specs.Graph.{Graph, graph, holds, no_node, node_at, flow_at, th
 use Rattle.flows.specs.Certificate.{distance, arrival, Arrived, Near, Certified}
 use Rattle.flows.specs.Fitting.{Bounded, SmallMarks, Fitting}
 use Rattle.flows.specs.Settled.{Relabeled, Beyond}
-use Rattle.flows.specs.Rounds.{Spread, Led, Listed, Grown, GrownBy, held_count, sum_below}
+use Rattle.flows.specs.Fronts.{Empty}
+use Rattle.flows.specs.Rounds.{Spread, Led, Grown, Starts, held_count, sum_below}
 use lib.Pow.{pow-lt}
 use lib.Bits.{or_lt}
 use Rattle.flows.proofs.Relabels.{same_verified, relabeled_none, relabeled_more}
 use Rattle.flows.proofs.Sets.{none_in, put_other}
 use Rattle.flows.proofs.Sums.{sum_more, sum_bound}
-use Rattle.flows.proofs.Listings.{listed_empty, listed_all}
+use Rattle.flows.proofs.Listings.{sum_none, none_of_sum}
 use Rattle.flows.proofs.Puts.{Put, put_verified, put_marks, label_other, label_kept, label_cases, label_new, next_kept, next_cases, next_new}
 
 -- what is led on stays so
-pub led_kept : (ns ns' : List NodeRecord) (fl : List FlowRecord) (rw' : List (List ℕ)) (N F : ℕ) (W W' fresh next next' : List ℕ) (d added f k : ℕ)
-    → Bounded (graph ns fl rw' N F) 64 → Grown N ns ns' W W' next next' added
+pub led_kept : (ns ns' : List NodeRecord) (fl : List FlowRecord) (rw' : List (List ℕ)) (N F : ℕ) (W W' fresh next next' : List ℕ) (d f k : ℕ)
+    → Bounded (graph ns fl rw' N F) 64 → Grown N ns ns' W W' next next'
     → Led (graph ns fl rw' N F) W fresh d f k → Led (graph ns' fl rw' N F) W' fresh d f k
-led_kept ns ns' fl rw' N F W W' fresh next next' d added f k bounded grown led w lw h some open_end =
+led_kept ns ns' fl rw' N F W W' fresh next next' d f k bounded grown led w lw h some open_end =
     let was = led w lw h some (sym (same_verified ns ns' grown.same _) ∙ open_end) in
     grown.near _ _ _ (bounded _ _) was.0 was.1
 
@@ -46,15 +47,17 @@ module _ (ns ns' : List NodeRecord) (fl : List FlowRecord) (rw' : List (List ℕ
     came.6,
   )
 
-  pub put_spread : (f w : ℕ) → Fitting (graph ns' fl rw' N F) W' → N ≤ length next'
+  pub put_spread : (f w : ℕ) → Fitting (graph ns' fl rw' N F) W' → length next' ≡ 4096
       → b < N → y < 64 → y ≢ 0 → (get_or ns b no_node).verified ≡ false
       → f < F → (flow_at (graph ns fl rw' N F) f).to ≡ b → w < 64 → holds (get_or ns (flow_at (graph ns fl rw' N F) f).«from» no_node).label w
       → distance W (flow_at (graph ns fl rw' N F) f).«from» w ≡ d → through (graph ns fl rw' N F) f w ≡ y → a ≡ 64 * f + w
       → Spread (graph ns fl rw' N F) W fresh next d → Spread (graph ns' fl rw' N F) W' fresh next' d
   put_spread f w fit room lb ly some open_end lf ends lw held far makes is s = record {
     fit = fit;
-    fresh_room = s.fresh_room;
-    next_room = room;
+    fresh_long = s.fresh_long;
+    next_long = room;
+    fresh_within = s.fresh_within;
+    next_within = λ n ne. inside n ne (ℕ_discrete n b);
     small = λ n ln. small_still n ln (ℕ_discrete n b);
     grounded = λ n v ln lv h none. ⊎_elim
         (λ old. subst (λ q. holds q v) (sym (put_marks p n)) (s.grounded n v ln lv old (omega (arith, (words_kept n v lv old).0))))
@@ -82,6 +85,10 @@ module _ (ns ns' : List NodeRecord) (fl : List FlowRecord) (rw' : List (List ℕ
         (λ here. absurd (omega (arith, within, far_here _ w' here))) (label_cases p _ w' h);
   }
     where
+      inside : (n : ℕ) → get_or next' n 0 ≢ 0 → Dec (n ≡ b) → n < N
+      inside n ne (yes e) = subst (λ k. k < N) (sym e) lb
+      inside n ne (no o) = s.next_within n (λ z. ne (p.next_other n o ∙ z))
+
       small_still : (n : ℕ) → n < N → Dec (n ≡ b) → (get_or ns' n no_node).label < 2 ^ 64
       small_still n ln (yes e) = subst (λ k. (get_or ns' k no_node).label < 2 ^ 64) (sym e)
           (subst (λ k. k < 2 ^ 64) (sym p.label_here) (or_lt 64 (get_or ns b no_node).label (2 ^ y) (s.small b lb) (pow-lt ly)))
@@ -136,20 +143,21 @@ led_all G W fresh next d s led f w lf lw h within some open_end = go (dec_lt (di
 
 -- the next round
 next_round : (G : Graph) (W fresh next fresh' next' : List ℕ) (d : ℕ) → Spread G W fresh next d → ((f : ℕ) → f < G.flow_count → Led G W fresh d f 64)
-    → length fresh' ≡ length fresh → length next' ≡ length next
-    → ((n : ℕ) → n < G.node_count → get_or fresh' n 0 ≡ get_or next n 0) → ((n : ℕ) → n < G.node_count → get_or next' n 0 ≡ 0)
+    → length fresh' ≡ 4096 → ((n : ℕ) → get_or fresh' n 0 ≡ get_or next n 0) → Empty next'
     → Spread G W fresh' next' (suc d)
-next_round G W fresh next fresh' next' d s led long long' moved cleared = record {
+next_round G W fresh next fresh' next' d s led long moved empty = record {
   fit = s.fit;
-  fresh_room = omega (arith, s.fresh_room);
-  next_room = omega (arith, s.next_room);
+  fresh_long = long;
+  next_long = empty.long;
+  fresh_within = λ n ne. s.next_within n (λ z. ne (moved n ∙ z));
+  next_within = λ n ne. absurd (ne (empty.none n));
   small = s.small;
   grounded = s.grounded;
   linked = s.linked;
   marked = s.marked;
-  fresh_is = λ n v ln lv h. s.next_is n v ln lv (subst (λ q. holds q v) (moved n ln) h);
-  fresh_has = λ n v ln lv h at. subst (λ q. holds q v) (sym (moved n ln)) (s.next_has n v ln lv h (omega arith));
-  next_is = λ n v ln lv h. absurd (none_in _ v (cleared n ln) h);
+  fresh_is = λ n v ln lv h. s.next_is n v ln lv (subst (λ q. holds q v) (moved n) h);
+  fresh_has = λ n v ln lv h at. subst (λ q. holds q v) (sym (moved n)) (s.next_has n v ln lv h (omega arith));
+  next_is = λ n v ln lv h. absurd (none_in _ v (empty.none n) h);
   next_has = λ n v ln lv h beyond. absurd (omega (arith, (s.next_is n v ln lv (s.next_has n v ln lv h (omega arith))).1));
   led_on = λ f w lf lw h within some open_end. led_all G W fresh next d s led f w lf lw h (omega arith) some open_end;
 }
@@ -172,51 +180,49 @@ finished G W fresh next d s led none = (
         go (no l) = omega arith
 
 -- before the first round the labels are the marks
-pub begun : (G : Graph) (W fresh next : List ℕ) → Fitting G W → SmallMarks G → G.node_count ≤ length fresh → G.node_count ≤ length next
+pub begun : (G : Graph) (W fresh : List ℕ) → Fitting G W → SmallMarks G → length fresh ≡ 4096
+    → ((n : ℕ) → get_or fresh n 0 ≢ 0 → n < G.node_count)
     → ((n : ℕ) → n < G.node_count → (node_at G n).label ≡ (node_at G n).marks)
     → ((n v : ℕ) → n < G.node_count → v < 64 → distance W n v ≡ 0)
     → ((n : ℕ) → n < G.node_count → get_or fresh n 0 ≡ (node_at G n).marks)
-    → ((n : ℕ) → n < G.node_count → get_or next n 0 ≡ 0)
-    → Spread G W fresh next 0
-begun G W fresh next fit marks fresh_room next_room labels zeros starts none = record {
+    → Starts G W fresh
+begun G W fresh fit marks long within labels zeros starts next empty = record {
   fit = fit;
-  fresh_room = fresh_room;
-  next_room = next_room;
+  fresh_long = long;
+  next_long = empty.long;
+  fresh_within = within;
+  next_within = λ n ne. absurd (ne (empty.none n));
   small = λ n ln. subst (λ k. k < 2 ^ 64) (sym (labels n ln)) (marks n ln);
   grounded = λ n v ln lv h at. subst (λ q. holds q v) (labels n ln) h;
   linked = λ n v ln lv h far. absurd (far (zeros n v ln lv));
   marked = λ n v ln lv h. (subst (λ q. holds q v) (sym (labels n ln)) h, omega (arith, zeros n v ln lv));
   fresh_is = λ n v ln lv h. (subst (λ q. holds q v) (starts n ln ∙ sym (labels n ln)) h, zeros n v ln lv);
   fresh_has = λ n v ln lv h at. subst (λ q. holds q v) (labels n ln ∙ sym (starts n ln)) h;
-  next_is = λ n v ln lv h. absurd (none_in _ v (none n ln) h);
+  next_is = λ n v ln lv h. absurd (none_in _ v (empty.none n) h);
   next_has = λ n v ln lv h beyond. absurd (omega (arith, zeros n v ln lv));
   led_on = λ f w lf lw h within some open_end. absurd (omega arith);
 }
 
-pub grown_none : (k : ℕ) (ns : List NodeRecord) (W next : List ℕ) → Grown k ns ns W W next next 0
-grown_none k ns W next = record { same = relabeled_none k ns; past = λ i l. refl; count = omega arith; idle = λ _. refl; near = λ n v j lv h l. (h, l) }
+pub grown_none : (k : ℕ) (ns : List NodeRecord) (W next : List ℕ) → Grown k ns ns W W next next
+grown_none k ns W next = record { same = relabeled_none k ns; past = λ i l. refl; more = omega arith; idle = λ _. refl; near = λ n v j lv h l. (h, l) }
 
-pub grown_more : {k : ℕ} {a b c : List NodeRecord} {U V W x y z : List ℕ} {r s : ℕ}
-    → Grown k a b U V x y r → Grown k b c V W y z s → Grown k a c U W x z (r + s)
+pub grown_more : {k : ℕ} {a b c : List NodeRecord} {U V W x y z : List ℕ}
+    → Grown k a b U V x y → Grown k b c V W y z → Grown k a c U W x z
 grown_more {k} {a} {b} {c} g h = record {
   same = relabeled_more k a b c g.same h.same;
   past = λ i l. h.past i l ∙ g.past i l;
-  count = omega (arith, g.count, h.count);
-  idle = λ z. h.idle (omega arith) ∙ g.idle (omega arith);
+  more = omega (arith, g.more, h.more);
+  idle = λ e. h.idle (omega (arith, g.more, h.more)) ∙ g.idle (omega (arith, g.more, h.more));
   near = λ n v j lv held l. let mid = g.near n v j lv held l in h.near n v j lv mid.0 mid.1;
 }
 
 pub grown_put : {ns ns' : List NodeRecord} {W W' next next' : List ℕ} {b y d a : ℕ} → Put ns ns' W W' next next' b y d a
-    → (holds (get_or ns b no_node).label y → ⊥) → (k : ℕ) → b < k → y < 64 → Grown k ns ns' W W' next next' 1
+    → (holds (get_or ns b no_node).label y → ⊥) → (k : ℕ) → b < k → y < 64 → Grown k ns ns' W W' next next'
 grown_put {ns} {ns'} {W} {W'} {next} {next'} {b} {y} {d} {a} p new k lb ly = record {
   same = λ n. (p.node n, λ l. p.node_other n (omega arith));
   past = λ i l. p.words_past i (omega arith);
-  count = omega (
-    arith,
-    sum_more (λ n. sum_below 64 (λ v. (get_or ns n no_node).label / 2 ^ v % 2)) (λ n. sum_below 64 (λ v. (get_or ns' n no_node).label / 2 ^ v % 2))
-        k b lb (sum_more (λ v. (get_or ns b no_node).label / 2 ^ v % 2) (λ v. (get_or ns' b no_node).label / 2 ^ v % 2) 64 y ly here other) (λ n ne. ap (λ s. sum_below 64 (λ v. s / 2 ^ v % 2)) (label_other p n ne)),
-  );
-  idle = λ z. absurd (omega arith);
+  more = omega (arith, one_more);
+  idle = λ e. absurd (omega (arith, one_more));
   near = λ n v j lv h l. (label_kept p n v h, omega (arith, l, (words_kept ns ns' [] [] 0 0 W W' [] next next' b y d a p new n v lv h).0));
 }
   where
@@ -231,18 +237,34 @@ grown_put {ns} {ns'} {W} {W'} {next} {next'} {b} {y} {d} {a} p new k lb ly = rec
     other : (v : ℕ) → v ≢ y → (get_or ns' b no_node).label / 2 ^ v % 2 ≡ (get_or ns b no_node).label / 2 ^ v % 2
     other v ne = ap (λ s. s / 2 ^ v % 2) p.label_here ∙ put_other _ y v ne
 
+    one_more : held_count k ns' ≡ suc (held_count k ns)
+    one_more = sum_more (λ n. sum_below 64 (λ v. (get_or ns n no_node).label / 2 ^ v % 2)) (λ n. sum_below 64 (λ v. (get_or ns' n no_node).label / 2 ^ v % 2))
+        k b lb (sum_more (λ v. (get_or ns b no_node).label / 2 ^ v % 2) (λ v. (get_or ns' b no_node).label / 2 ^ v % 2) 64 y ly here other)
+        (λ n ne. ap (λ s. sum_below 64 (λ v. s / 2 ^ v % 2)) (label_other p n ne))
+
 -- labels have at most 64 values
 pub held_most : (k : ℕ) (ns : List NodeRecord) → held_count k ns ≤ 64 * k
 held_most k ns = sum_bound (λ n. sum_below 64 (λ v. (get_or ns n no_node).label / 2 ^ v % 2)) k 64
     (λ n l. sum_bound (λ v. (get_or ns n no_node).label / 2 ^ v % 2) 64 1 (λ v l'. omega arith))
 
+-- 1 where a node has values, and 0 where none has
+abbrev pub lit : List ℕ → ℕ
+lit sets = min 1 (sum sets)
+
+pub lit_some : (sets : List ℕ) → length sets ≡ 4096 → (Empty sets → ⊥) → 0 < lit sets
+lit_some sets long some = go (ℕ_discrete (sum sets) 0)
+  where
+    go : Dec (sum sets ≡ 0) → 0 < lit sets
+    go (yes e) = absurd (some record { long = long; none = none_of_sum sets e })
+    go (no ne) = omega arith
+
 -- what holds before each round: there are no more rounds than values in the labels, but for the last
-pub record Running (start ns : List NodeRecord) (fl : List FlowRecord) (rw' : List (List ℕ)) (N F : ℕ) (W₀ W fresh next : List ℕ) (d active : ℕ) : Type 0 where
+pub record Running (start ns : List NodeRecord) (fl : List FlowRecord) (rw' : List (List ℕ)) (N F : ℕ) (W₀ W fresh next : List ℕ) (d : ℕ) : Type 0 where
   pub spread : Spread (graph ns fl rw' N F) W fresh next d
   pub same : Relabeled N start ns
   pub past : Beyond N W₀ W
-  pub none : (n : ℕ) → n < N → get_or next n 0 ≡ 0
-  pub steps : d + min 1 active ≤ held_count N ns + 1
+  pub empty : Empty next
+  pub steps : d + lit fresh ≤ held_count N ns + 1
 
 -- a round keeps what fits, since it keeps the lengths
 pub fitting_kept : (ns ns' : List NodeRecord) (fl : List FlowRecord) (rw' : List (List ℕ)) (N F : ℕ) (W W' : List ℕ)
@@ -258,43 +280,39 @@ fitting_kept ns ns' fl rw' N F W W' long_ns long_W fit = record {
   bounded = fit.bounded;
 }
 
-pub running_begun : (ns : List NodeRecord) (fl : List FlowRecord) (rw' : List (List ℕ)) (N F : ℕ) (W fresh next : List ℕ) (active : ℕ)
-    → Spread (graph ns fl rw' N F) W fresh next 0 → ((n : ℕ) → n < N → get_or next n 0 ≡ 0)
-    → Running ns ns fl rw' N F W W fresh next 0 active
-running_begun ns fl rw' N F W fresh next active s none = record { spread = s; same = relabeled_none N ns; past = λ i l. refl; none = none; steps = omega arith }
+pub running_begun : (ns : List NodeRecord) (fl : List FlowRecord) (rw' : List (List ℕ)) (N F : ℕ) (W fresh next : List ℕ)
+    → Starts (graph ns fl rw' N F) W fresh → Empty next → Running ns ns fl rw' N F W W fresh next 0
+running_begun ns fl rw' N F W fresh next starts empty = record { spread = starts next empty; same = relabeled_none N ns; past = λ i l. refl; empty = empty; steps = omega arith }
 
--- a round that lists nodes has put values into labels
-pub round_grows : (N : ℕ) (ns ns' : List NodeRecord) (W W' next next' listed : List ℕ) (count : ℕ)
-    → GrownBy N ns ns' W W' next next' → ((n : ℕ) → n < N → get_or next n 0 ≡ 0) → Listed N next' listed count
-    → held_count N ns + min 1 count ≤ held_count N ns'
-round_grows N ns ns' W W' next next' listed count grown none list = go (ℕ_discrete (held_count N ns' - held_count N ns) 0)
+-- a round that leaves fresh values has put values into labels
+pub round_grows : (N : ℕ) (ns ns' : List NodeRecord) (W W' next next' fresh' : List ℕ)
+    → Grown N ns ns' W W' next next' → Empty next → ((n : ℕ) → get_or fresh' n 0 ≡ get_or next' n 0)
+    → held_count N ns + lit fresh' ≤ held_count N ns'
+round_grows N ns ns' W W' next next' fresh' grown empty moved = go (ℕ_discrete (held_count N ns') (held_count N ns))
   where
-    go : Dec (held_count N ns' - held_count N ns ≡ 0) → held_count N ns + min 1 count ≤ held_count N ns'
-    go (yes e) =
-        let empty : count ≡ 0 = listed_empty N next' listed count list (λ n ln. ap (λ xs. get_or xs n 0) (grown.idle e) ∙ none n ln) in
-        omega (arith, grown.count)
-    go (no ne) = omega (arith, grown.count)
+    go : Dec (held_count N ns' ≡ held_count N ns) → held_count N ns + lit fresh' ≤ held_count N ns'
+    go (yes e) = omega (arith, sum_none fresh' (λ n. moved n ∙ ap (λ xs. get_or xs n 0) (grown.idle e) ∙ empty.none n))
+    go (no ne) = omega (arith, grown.more)
 
-pub running_more : (start ns ns' : List NodeRecord) (fl : List FlowRecord) (rw' : List (List ℕ)) (N F : ℕ) (W₀ W W' fresh fresh' next next' next'' listed : List ℕ) (d active count : ℕ)
-    → active ≢ 0 → Running start ns fl rw' N F W₀ W fresh next d active
+pub running_more : (start ns ns' : List NodeRecord) (fl : List FlowRecord) (rw' : List (List ℕ)) (N F : ℕ) (W₀ W W' fresh fresh' next next' next'' : List ℕ) (d : ℕ)
+    → 0 < lit fresh → Running start ns fl rw' N F W₀ W fresh next d
     → Spread (graph ns' fl rw' N F) W' fresh next' d → ((f : ℕ) → f < F → Led (graph ns' fl rw' N F) W' fresh d f 64)
-    → GrownBy N ns ns' W W' next next' → Listed N next' listed count
-    → length fresh' ≡ length fresh → length next'' ≡ length next'
-    → ((n : ℕ) → n < N → get_or fresh' n 0 ≡ get_or next' n 0) → ((n : ℕ) → n < N → get_or next'' n 0 ≡ 0)
-    → Running start ns' fl rw' N F W₀ W' fresh' next'' (d + 1) count
-running_more start ns ns' fl rw' N F W₀ W W' fresh fresh' next next' next'' listed d active count some run s led grown list long long' moved cleared = record {
+    → Grown N ns ns' W W' next next'
+    → length fresh' ≡ 4096 → ((n : ℕ) → get_or fresh' n 0 ≡ get_or next' n 0) → Empty next''
+    → Running start ns' fl rw' N F W₀ W' fresh' next'' (d + 1)
+running_more start ns ns' fl rw' N F W₀ W W' fresh fresh' next next' next'' d some run s led grown long moved empty = record {
   spread = subst (λ k. Spread (graph ns' fl rw' N F) W' fresh' next'' k) (sym (add-one d))
-      (next_round (graph ns' fl rw' N F) W' fresh next' fresh' next'' d s led long long' moved cleared);
+      (next_round (graph ns' fl rw' N F) W' fresh next' fresh' next'' d s led long moved empty);
   same = relabeled_more N start ns ns' run.same grown.same;
   past = λ i l. grown.past i l ∙ run.past i l;
-  none = cleared;
-  steps = omega (arith, run.steps, round_grows N ns ns' W W' next next' listed count grown run.none list);
+  empty = empty;
+  steps = omega (arith, run.steps, round_grows N ns ns' W W' next next' fresh' grown run.empty moved);
 }
 
 -- where nothing is fresh, the labels are complete
-pub running_end : (start ns : List NodeRecord) (fl : List FlowRecord) (rw' : List (List ℕ)) (N F : ℕ) (W₀ W fresh next active : List ℕ) (d count : ℕ)
-    → Running start ns fl rw' N F W₀ W fresh next d count → Listed N fresh active count → count ≡ 0
+pub running_end : (start ns : List NodeRecord) (fl : List FlowRecord) (rw' : List (List ℕ)) (N F : ℕ) (W₀ W fresh next : List ℕ) (d : ℕ)
+    → Running start ns fl rw' N F W₀ W fresh next d → Empty fresh
     → Certified (graph ns fl rw' N F) W
-running_end start ns fl rw' N F W₀ W fresh next active d count run list none =
+running_end start ns fl rw' N F W₀ W fresh next d run none =
     finished (graph ns fl rw' N F) W fresh next d run.spread
-    (λ f lf w lw h. absurd (none_in _ w (listed_all N fresh active count list none _ (run.spread.fit.joined f lf).0) h)) run.none
+    (λ f lf w lw h. absurd (none_in _ w (none.none _) h)) (λ n ln. run.empty.none n)

@@ -1,102 +1,104 @@
--- The walk along the flows of one node.
-use Rattle.std.proofs.Common.{◌≡◌, ℕ, ◌+◌, ◌-◌, ◌<◌, ◌≤◌, ◌≢◌, List, get_or, sym, ap, ◌∙◌, subst, arith}
+-- The walk along the flows of one node, and over the nodes of one round.
+use Rattle.std.proofs.Common.{◌≡◌, ℕ, suc, ◌+◌, ◌<◌, ◌≤◌, Option, None, Some, List, length, get_or, sym, refl, ap, ◌∙◌, subst, arith}
 use native.Mathlib.Decide.{dec_lt, ℕ_discrete}
-use Rattle.flows.specs.declared.records.NodeRecord.{NodeRecord}
-use Rattle.flows.specs.declared.records.FlowRecord.{FlowRecord}
-use Rattle.flows.specs.Graph.{graph, no_flow}
-use Rattle.flows.specs.Rounds.{Spread, Led, Grown, GrownBy, Listed, Chained}
+use Rattle.flows.specs.declared.leading.Round.{Round}
+use Rattle.flows.specs.declared.leading.Wave.{Wave}
+use Rattle.flows.specs.Charts.{Ready, SameMemory, Went, LedOn}
+use Rattle.flows.specs.Fronts.{Lists}
+use Rattle.flows.specs.Graph.{no_flow}
+use Rattle.flows.specs.Rounds.{Chained, past_flow}
 use Rattle.flows.proofs.Sets.{none_in}
-use Rattle.flows.proofs.Listings.{listed_none}
 use Rattle.flows.proofs.Spreads.{led_kept, grown_none, grown_more}
 
-pub record Tracing (start ns : List NodeRecord) (fl : List FlowRecord) (rw' : List (List ℕ)) (N F : ℕ) (W₀ W fresh next₀ next listed : List ℕ)
-    (d node cursor count : ℕ) : Type 0 where
-  pub spread : Spread (graph ns fl rw' N F) W fresh next d
-  pub grown : GrownBy N start ns W₀ W next₀ next
-  pub led : (f : ℕ) → f < F → (get_or fl f no_flow).«from» ≡ node → cursor ≤ f → Led (graph ns fl rw' N F) W fresh d f 64
-  pub here : cursor ≢ 0 → (cursor ≤ F) × ((get_or fl (cursor - 1) no_flow).«from» ≡ node)
-  pub list : Listed N next listed count
+pub same_none : (a : Wave) → SameMemory a a
+same_none a = record { nodes = refl; workspace = refl; next = refl }
 
--- the growth so far, by what the labels have
-grown_so_far : {k : ℕ} {a b : List NodeRecord} {U V x y : List ℕ} {r : ℕ} → Grown k a b U V x y r → GrownBy k a b U V x y
-grown_so_far {k} {a} {b} {U} {V} {x} {y} {r} g = subst (λ n. Grown k a b U V x y n) (omega (arith, g.count)) g
+pub same_more : {a b c : Wave} → SameMemory a b → SameMemory b c → SameMemory a c
+same_more f g = record { nodes = g.nodes ∙ f.nodes; workspace = g.workspace ∙ f.workspace; next = g.next ∙ f.next }
 
-pub trace_begin : (ns : List NodeRecord) (fl : List FlowRecord) (rw' : List (List ℕ)) (N F : ℕ) (W fresh next listed head link : List ℕ) (d node count : ℕ)
-    → Spread (graph ns fl rw' N F) W fresh next d → Chained fl F head link → Listed N next listed count
-    → Tracing ns ns fl rw' N F W W fresh next next listed d node (get_or head node 0) count
-trace_begin ns fl rw' N F W fresh next listed head link d node count s chained list = record {
-  spread = s;
-  grown = grown_so_far (grown_none N ns W next);
-  led = λ f lf is past. absurd (omega (arith, past, chained.last f lf, ap (λ n. get_or head n 0) is));
-  here = chained.head_is node;
-  list = list;
+went_none : (r : Round) (a : Wave) → Went r a a
+went_none r a = record { same = same_none a; grown = grown_none (length r.chart.head.now) a.nodes.now a.workspace.now a.next.now }
+
+went_more : {r : Round} {a b c : Wave} → Went r a b → Went r b c → Went r a c
+went_more f g = record { same = same_more f.same g.same; grown = grown_more f.grown g.grown }
+
+-- a chain goes down
+pub fewer : (cursor next : Option ℕ) (number : ℕ) → cursor ≡ Some number → ((f : ℕ) → next ≡ Some f → f < number) → past_flow next < past_flow cursor
+fewer cursor next number at below = subst (λ o. past_flow next < past_flow o) (sym at) (go next below)
+  where
+    go : (o : Option ℕ) → ((f : ℕ) → o ≡ Some f → f < number) → past_flow o < suc number
+    go None b = omega arith
+    go (Some f) b = omega (arith, b f refl)
+
+-- what is led on stays so
+kept : (r : Round) (a b : Wave) (f : ℕ) → Ready r a → Went r a b → LedOn r a f → LedOn r b f
+kept r a b f ready went led =
+    led_kept a.nodes.now b.nodes.now r.chart.flows.now r.chart.rows.now (length r.chart.head.now) (length r.chart.flows.now) a.workspace.now b.workspace.now r.fresh.now
+    a.next.now b.next.now r.distance f 64 ready.spread.fit.bounded went.grown led
+
+-- the flows of the node from the cursor on are done
+pub record Tracing (r : Round) (start wave : Wave) (node : ℕ) (cursor : Option ℕ) : Type 0 where
+  pub ready : Ready r wave
+  pub went : Went r start wave
+  pub led : (f : ℕ) → f < length r.chart.flows.now → (get_or r.chart.flows.now f no_flow).«from» ≡ node → past_flow cursor ≤ f → LedOn r wave f
+  pub here : (f : ℕ) → cursor ≡ Some f → (f < length r.chart.flows.now) × ((get_or r.chart.flows.now f no_flow).«from» ≡ node)
+
+pub trace_begin : (r : Round) (wave : Wave) (node : ℕ) → Ready r wave → Tracing r wave wave node (get_or r.chart.head.now node None)
+trace_begin r wave node ready = record {
+  ready = ready;
+  went = went_none r wave;
+  led = λ f lf is past. absurd (omega (arith, past, ready.charted.chained.last f lf, ap (λ n. past_flow (get_or r.chart.head.now n None)) is));
+  here = ready.charted.chained.head_is node;
 }
 
-pub trace_more : (start ns ns' : List NodeRecord) (fl : List FlowRecord) (rw' : List (List ℕ)) (N F : ℕ) (W₀ W W' fresh next₀ next next' listed listed' head link : List ℕ)
-    (d node cursor count count' added : ℕ) → cursor ≢ 0 → Chained fl F head link
-    → Tracing start ns fl rw' N F W₀ W fresh next₀ next listed d node cursor count
-    → Spread (graph ns' fl rw' N F) W' fresh next' d → Led (graph ns' fl rw' N F) W' fresh d (cursor - 1) 64
-    → Grown N ns ns' W W' next next' added → Listed N next' listed' count'
-    → Tracing start ns' fl rw' N F W₀ W' fresh next₀ next' listed' d node (get_or link (cursor - 1) 0) count'
-trace_more start ns ns' fl rw' N F W₀ W W' fresh next₀ next next' listed listed' head link d node cursor count count' added more chained t s led grown list = record {
-  spread = s;
-  grown = grown_so_far (grown_more t.grown grown);
-  led = λ f lf is past. go f lf is past (dec_lt f cursor);
-  here = λ ne. let was = chained.link_is (cursor - 1) (omega (arith, (t.here more).0)) ne in (omega (arith, was.0, (t.here more).0), was.1 ∙ (t.here more).1);
-  list = list;
+pub trace_more : (r : Round) (start wave wave' : Wave) (node number : ℕ) (cursor : Option ℕ) → cursor ≡ Some number
+    → Tracing r start wave node cursor → Ready r wave' → Went r wave wave' → LedOn r wave' number
+    → Tracing r start wave' node (get_or r.chart.link.now number None)
+trace_more r start wave wave' node number cursor at t ready went led = record {
+  ready = ready;
+  went = went_more t.went went;
+  led = λ f lf is past. go f lf is past (dec_lt f (suc number));
+  here = λ f is. let was = chained.link_is number f (t.here number at).0 is in (omega (arith, was.0, (t.here number at).0), was.1 ∙ (t.here number at).1);
 }
   where
-    go : (f : ℕ) → f < F → (get_or fl f no_flow).«from» ≡ node → get_or link (cursor - 1) 0 ≤ f → Dec (f < cursor) → Led (graph ns' fl rw' N F) W' fresh d f 64
-    go f lf is past (no l) = led_kept ns ns' fl rw' N F W W' fresh next next' d added f 64 t.spread.fit.bounded grown (t.led f lf is (omega arith))
-    go f lf is past (yes l) = last (ℕ_discrete f (cursor - 1))
+    chained : Chained r.chart.flows.now (length r.chart.flows.now) r.chart.head.now r.chart.link.now
+    chained = ready.charted.chained
+
+    go : (f : ℕ) → f < length r.chart.flows.now → (get_or r.chart.flows.now f no_flow).«from» ≡ node → past_flow (get_or r.chart.link.now number None) ≤ f
+        → Dec (f < suc number) → LedOn r wave' f
+    go f lf is past (no l) = kept r wave wave' f t.ready went (t.led f lf is (omega (arith, ap past_flow at)))
+    go f lf is past (yes l) = last (ℕ_discrete f number)
       where
-        last : Dec (f ≡ cursor - 1) → Led (graph ns' fl rw' N F) W' fresh d f 64
-        last (yes e) = subst (λ g. Led (graph ns' fl rw' N F) W' fresh d g 64) (sym e) led
-        last (no ne) = absurd (omega (arith, past, chained.before f (cursor - 1) (omega arith) (omega (arith, (t.here more).0)) (is ∙ sym (t.here more).1)))
+        last : Dec (f ≡ number) → LedOn r wave' f
+        last (yes e) = subst (λ g. LedOn r wave' g) (sym e) led
+        last (no ne) = absurd (omega (arith, past, chained.before f number (omega arith) (t.here number at).0 (is ∙ sym (t.here number at).1)))
 
--- a round has come to the active node at place i
-pub record Rounding (start ns : List NodeRecord) (fl : List FlowRecord) (rw' : List (List ℕ)) (N F : ℕ) (W₀ W fresh next₀ next active listed : List ℕ)
-    (d i count : ℕ) : Type 0 where
-  pub spread : Spread (graph ns fl rw' N F) W fresh next d
-  pub grown : GrownBy N start ns W₀ W next₀ next
-  pub led : (f j : ℕ) → f < F → j < i → get_or active j 0 ≡ (get_or fl f no_flow).«from» → Led (graph ns fl rw' N F) W fresh d f 64
-  pub list : Listed N next listed count
+-- a round has come to the node at place i
+pub record Rounding (r : Round) (start wave : Wave) (nodes : List ℕ) (i : ℕ) : Type 0 where
+  pub ready : Ready r wave
+  pub went : Went r start wave
+  pub led : (f j : ℕ) → f < length r.chart.flows.now → j < i → get_or nodes j 0 ≡ (get_or r.chart.flows.now f no_flow).«from» → LedOn r wave f
 
-pub round_begin : (ns : List NodeRecord) (fl : List FlowRecord) (rw' : List (List ℕ)) (N F : ℕ) (W fresh next active listed : List ℕ) (d : ℕ)
-    → Spread (graph ns fl rw' N F) W fresh next d → ((n : ℕ) → n < N → get_or next n 0 ≡ 0)
-    → Rounding ns ns fl rw' N F W W fresh next next active listed d 0 0
-round_begin ns fl rw' N F W fresh next active listed d s none = record {
-  spread = s;
-  grown = grown_so_far (grown_none N ns W next);
-  led = λ f j lf lj. absurd (omega arith);
-  list = listed_none N next listed none;
-}
-
-pub round_more : (start ns ns' : List NodeRecord) (fl : List FlowRecord) (rw' : List (List ℕ)) (N F : ℕ) (W₀ W W' fresh next₀ next next' active listed listed' : List ℕ)
-    (d i count : ℕ) {count' added : ℕ}
-    → Rounding start ns fl rw' N F W₀ W fresh next₀ next active listed d i count
-    → Spread (graph ns' fl rw' N F) W' fresh next' d
-    → ((f : ℕ) → f < F → (get_or fl f no_flow).«from» ≡ get_or active i 0 → Led (graph ns' fl rw' N F) W' fresh d f 64)
-    → Grown N ns ns' W W' next next' added → Listed N next' listed' count'
-    → Rounding start ns' fl rw' N F W₀ W' fresh next₀ next' active listed' d (i + 1) count'
-round_more start ns ns' fl rw' N F W₀ W W' fresh next₀ next next' active listed listed' d i count {count'} {added} r s led grown list = record {
-  spread = s;
-  grown = grown_so_far (grown_more r.grown grown);
+pub round_more : (r : Round) (start wave wave' : Wave) (nodes : List ℕ) (i : ℕ)
+    → Rounding r start wave nodes i → Ready r wave' → Went r wave wave'
+    → ((f : ℕ) → f < length r.chart.flows.now → (get_or r.chart.flows.now f no_flow).«from» ≡ get_or nodes i 0 → LedOn r wave' f)
+    → Rounding r start wave' nodes (i + 1)
+round_more r start wave wave' nodes i t ready went led = record {
+  ready = ready;
+  went = went_more t.went went;
   led = λ f j lf lj is. go f j lf lj is (ℕ_discrete j i);
-  list = list;
 }
   where
-    go : (f j : ℕ) → f < F → j < i + 1 → get_or active j 0 ≡ (get_or fl f no_flow).«from» → Dec (j ≡ i) → Led (graph ns' fl rw' N F) W' fresh d f 64
-    go f j lf lj is (yes e) = led f lf (sym is ∙ ap (λ m. get_or active m 0) e)
-    go f j lf lj is (no ne) = led_kept ns ns' fl rw' N F W W' fresh next next' d added f 64 r.spread.fit.bounded grown (r.led f j lf (omega arith) is)
+    go : (f j : ℕ) → f < length r.chart.flows.now → j < i + 1 → get_or nodes j 0 ≡ (get_or r.chart.flows.now f no_flow).«from» → Dec (j ≡ i) → LedOn r wave' f
+    go f j lf lj is (yes e) = led f lf (sym is ∙ ap (λ m. get_or nodes m 0) e)
+    go f j lf lj is (no ne) = kept r wave wave' f t.ready went (t.led f j lf (omega arith) is)
 
-pub round_end : (start ns : List NodeRecord) (fl : List FlowRecord) (rw' : List (List ℕ)) (N F : ℕ) (W₀ W fresh next₀ next active listed : List ℕ)
-    (d i count active_count : ℕ)
-    → Rounding start ns fl rw' N F W₀ W fresh next₀ next active listed d i count → Listed N fresh active active_count → active_count ≤ i
-    → (f : ℕ) → f < F → Led (graph ns fl rw' N F) W fresh d f 64
-round_end start ns fl rw' N F W₀ W fresh next₀ next active listed d i count active_count r list all f lf = go (ℕ_discrete (get_or fresh (get_or fl f no_flow).«from» 0) 0)
+pub round_end : (r : Round) (start wave : Wave) (nodes : List ℕ) (i : ℕ)
+    → Rounding r start wave nodes i → Lists r.fresh.now nodes → length nodes ≤ i
+    → (f : ℕ) → f < length r.chart.flows.now → LedOn r wave f
+round_end r start wave nodes i t list all f lf = go (ℕ_discrete (get_or r.fresh.now (get_or r.chart.flows.now f no_flow).«from» 0) 0)
   where
-    go : Dec (get_or fresh (get_or fl f no_flow).«from» 0 ≡ 0) → Led (graph ns fl rw' N F) W fresh d f 64
+    go : Dec (get_or r.fresh.now (get_or r.chart.flows.now f no_flow).«from» 0 ≡ 0) → LedOn r wave f
     go (yes z) = λ w lw h. absurd (none_in _ w z h)
-    go (no ne) = let at = list.there (get_or fl f no_flow).«from» (r.spread.fit.joined f lf).0 ne in
-        let below = at.1 in r.led f at.0 lf (omega (arith, below)) at.2
+    go (no ne) = let at = list.there (get_or r.chart.flows.now f no_flow).«from» ne in
+        let below = at.1 in t.led f at.0 lf (omega (arith, below)) at.2

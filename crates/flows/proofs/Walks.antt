@@ -1,59 +1,42 @@
--- The walk from a value back along its hops, written from the end of a list to its front.
-use Rattle.std.proofs.Common.{◌≡◌, ℕ, suc, ◌-◌, ◌/◌, ◌%◌, ◌<◌, ◌≤◌, List, [], ◌∷◌, ◌++◌, length, get_or, take, drop, set, sym, refl, ap, ◌∙◌, append_assoc, append-nil, add-one, arith}
-use Rattle.std.proofs.lemmas.List.{drop-set, drop-set-lt}
+-- The walk from a value back along its hops.
+use Rattle.std.proofs.Common.{◌≡◌, ℕ, suc, ◌+◌, ◌-◌, ◌/◌, ◌%◌, ◌<◌, List, [], ◌∷◌, ◌++◌, length, get_or, take, reverse, set, sym, ap, ◌∙◌, append_assoc, arith}
+use Rattle.std.proofs.lemmas.List.{reverse-append, take_all, take_more_set}
 use Rattle.flows.specs.declared.records.FlowRecord.{FlowRecord}
 use Rattle.flows.specs.Graph.{no_flow}
 use Rattle.flows.specs.Certificate.{arrival}
 use Rattle.flows.specs.Paths.{hops}
 
--- the part of a list from `first` up to `past`
-abbrev part : ℕ → ℕ → List ℕ → List ℕ
-part first past xs = take (past - first) (drop first xs)
+-- the walk has come to value `held` at node `at`, and the last `done` hops are written, the last first
+pub record Walked (W : List ℕ) (flows : List FlowRecord) (n x count : ℕ) (piece : List ℕ) (at held done : ℕ) : Type 0 where
+  pub written : hops W flows (count - done) at held ++ reverse (take done piece) ≡ hops W flows count n x
 
-part_front : (xs : List ℕ) (f h count : ℕ) → suc h ≤ count → count ≤ length xs → part h count (set xs h f) ≡ f ∷ part (suc h) count xs
-part_front xs f h count some fits =
-    let within : h < length xs = omega arith in
-    let one_more : count - h ≡ suc (count - suc h) = omega arith in
-    rw (drop-set xs h f within, one_more, add-one)
-
--- the walk has come to value `held` at node `at`, and the hops from `hop` on are written
-pub record Walked (W : List ℕ) (flows : List FlowRecord) (n x count : ℕ) (before piece : List ℕ) (at held hop : ℕ) : Type 0 where
-  pub written : hops W flows hop at held ++ part hop count piece ≡ hops W flows count n x
-  pub rest : drop count piece ≡ drop count before
-
-pub walk_begin : (W : List ℕ) (flows : List FlowRecord) (n x count : ℕ) (piece : List ℕ) → Walked W flows n x count piece piece n x count
-walk_begin W flows n x count piece =
-    let none : count - count ≡ 0 = omega arith in
-    record { written = ap (λ k. hops W flows count n x ++ take k (drop count piece)) none ∙ append-nil (hops W flows count n x); rest = refl }
-
--- one hop more is in front of those that are written
-pub walk_more : (W : List ℕ) (flows : List FlowRecord) (n x count : ℕ) (before piece : List ℕ) (at held hop a start : ℕ)
-    → 0 < hop → hop ≤ count → count ≤ length piece → a ≡ arrival W at held → start ≡ (get_or flows (a / 64) no_flow).«from»
-    → Walked W flows n x count before piece at held hop
-    → Walked W flows n x count before (set piece (hop - 1) (a / 64)) start (a % 64) (hop - 1)
+-- one hop more is written
+pub walk_more : (W : List ℕ) (flows : List FlowRecord) (n x count : ℕ) (piece : List ℕ) (at held done a start : ℕ)
+    → done < length piece → length piece ≡ count → a ≡ arrival W at held → start ≡ (get_or flows (a / 64) no_flow).«from»
+    → Walked W flows n x count piece at held done
+    → Walked W flows n x count (set piece done (a / 64)) start (a % 64) (done + 1)
 unfolding hops
-walk_more W flows n x count before piece at held hop a start some within fits read is walked =
-    let h = hop - 1 in
-    let one : hop ≡ suc h = omega arith in
-    let below : h < count = omega arith in
-    let f = a / 64 in
-    let back = hops W flows h (get_or flows f no_flow).«from» (a % 64) in
-    let last : hops W flows (suc h) at held ≡ back ++ (f ∷ []) =
-    ap (λ k. hops W flows h (get_or flows (k / 64) no_flow).«from» (k % 64) ++ (k / 64 ∷ [])) (sym read) in
+walk_more W flows n x count piece at held done a start within long read is walked =
+    let k : ℕ = count - (done + 1) in
+    let one : count - done ≡ suc k = omega arith in
+    let back = hops W flows k (get_or flows (a / 64) no_flow).«from» (a % 64) in
+    let last : hops W flows (suc k) at held ≡ back ++ (a / 64 ∷ []) =
+    ap (λ b. hops W flows k (get_or flows (b / 64) no_flow).«from» (b % 64) ++ (b / 64 ∷ [])) (sym read) in
     record {
-      written = ap (λ s. hops W flows h s (a % 64) ++ part h count (set piece h f)) is
-          ∙ ap (λ l. back ++ l) (part_front piece f h count (omega arith) fits)
-          ∙ sym (append_assoc back (f ∷ []) (part (suc h) count piece))
-          ∙ ap (λ l. l ++ part (suc h) count piece) (sym last)
-          ∙ ap (λ k. hops W flows k at held ++ part k count piece) (sym one)
+      written = ap (λ s. hops W flows k s (a % 64) ++ reverse (take (done + 1) (set piece done (a / 64)))) is
+          ∙ ap (λ l. back ++ reverse l) (take_more_set piece done (a / 64) within)
+          ∙ ap (λ l. back ++ l) (reverse-append (take done piece) (a / 64 ∷ []))
+          ∙ sym (append_assoc back (a / 64 ∷ []) (reverse (take done piece)))
+          ∙ ap (λ l. l ++ reverse (take done piece)) (sym last)
+          ∙ ap (λ j. hops W flows j at held ++ reverse (take done piece)) (sym one)
           ∙ walked.written;
-      rest = drop-set-lt count piece h f below ∙ walked.rest;
     }
 
 -- at its end the walk has written all hops
-pub walk_end : (W : List ℕ) (flows : List FlowRecord) (n x count : ℕ) (before piece : List ℕ) (at held hop : ℕ) → hop ≡ 0
-    → Walked W flows n x count before piece at held hop → take count piece ≡ hops W flows count n x
+pub walk_end : (W : List ℕ) (flows : List FlowRecord) (n x count : ℕ) (piece : List ℕ) (at held done : ℕ) → length piece ≡ count → done ≡ count
+    → Walked W flows n x count piece at held done → reverse piece ≡ hops W flows count n x
 unfolding hops
-walk_end W flows n x count before piece at held hop none walked =
-    let whole : part 0 count piece ≡ take count piece = ap (λ k. take k piece) (omega arith) in
-    sym whole ∙ sym (ap (λ k. hops W flows k at held ++ part k count piece) none) ∙ walked.written
+walk_end W flows n x count piece at held done long all walked =
+    let none : count - done ≡ 0 = omega arith in
+    let whole : take done piece ≡ piece = take_all done piece (omega arith) in
+    sym (ap (λ k. hops W flows k at held ++ reverse (take done piece)) none ∙ ap reverse whole) ∙ walked.written

@@ -1,6 +1,6 @@
 -- What the records describe: nodes with marks, flows between them, and what each step makes of a value.
 -- Sets of values are numbers: bit v is set where value v is in the set.
-use Rattle.std.specs.Prelude.{◌≡◌, ℕ, ◌/◌, ◌%◌, ◌^◌, ◌<◌, false, ◌≢◌, List, [], ◌∷◌, slice_index, slice_index_or}
+use Rattle.std.specs.Prelude.{◌≡◌, ℕ, ◌/◌, ◌%◌, ◌^◌, ◌<◌, false, ◌≢◌, List, [], ◌∷◌, length, slice_index, slice_index_or}
 use Rattle.flows.specs.declared.records.NodeRecord.{NodeRecord}
 use Rattle.flows.specs.declared.records.FlowRecord.{FlowRecord}
 
@@ -14,6 +14,10 @@ pub record Graph : Type 0 where
 abbrev pub graph : List NodeRecord → List FlowRecord → List (List ℕ) → ℕ → ℕ → Graph
 graph nodes flows rows node_count flow_count =
     record { nodes = nodes; flows = flows; rows = rows; node_count = node_count; flow_count = flow_count }
+
+-- the graph of all these nodes and flows
+abbrev pub whole : List NodeRecord → List FlowRecord → List (List ℕ) → Graph
+whole nodes flows rows = graph nodes flows rows (length nodes) (length flows)
 
 -- value v is in the set s
 abbrev pub holds : ℕ → ℕ → Type 0

@@ -1,11 +1,12 @@
 -- What holds while values spread over a graph, round by round: in round d the values at distance d are led on along each flow.
-use Rattle.std.specs.Prelude.{◌≡◌, ℕ, zero, suc, ◌+◌, ◌-◌, ◌/◌, ◌%◌, ◌^◌, ◌<◌, ◌≤◌, false, ◌≢◌, List, length, slice_index, slice_index_or}
+use Rattle.std.specs.Prelude.{◌≡◌, ℕ, zero, suc, ◌+◌, ◌/◌, ◌%◌, ◌^◌, ◌<◌, ◌≤◌, false, ◌≢◌, List, Option, None, Some, length, slice_index, slice_index_or}
 use Rattle.flows.specs.declared.records.FlowRecord.{FlowRecord}
 use Rattle.flows.specs.declared.records.NodeRecord.{NodeRecord}
 use Rattle.flows.specs.Graph.{Graph, holds, no_node, no_flow, node_at, flow_at, through}
 use Rattle.flows.specs.Certificate.{distance, Near, Grounded, Linked, Marked}
 use Rattle.flows.specs.Settled.{Relabeled, Beyond}
 use Rattle.flows.specs.Fitting.{Fitting}
+use Rattle.flows.specs.Fronts.{Empty}
 
 abbrev pub sum_below : ℕ → (ℕ → ℕ) → ℕ
 sum_below zero g = 0
@@ -19,8 +20,10 @@ held_count k nodes = sum_below k (λ n. sum_below 64 (λ v. (slice_index_or node
 -- The values that are nearer than d are led on along every flow.
 pub record Spread (G : Graph) (W fresh next : List ℕ) (d : ℕ) : Type 0 where
   pub fit : Fitting G W
-  pub fresh_room : G.node_count ≤ length fresh
-  pub next_room : G.node_count ≤ length next
+  pub fresh_long : length fresh ≡ 4096
+  pub next_long : length next ≡ 4096
+  pub fresh_within : (n : ℕ) → slice_index fresh n ≢ 0 → n < G.node_count
+  pub next_within : (n : ℕ) → slice_index next n ≢ 0 → n < G.node_count
   pub small : (n : ℕ) → n < G.node_count → (node_at G n).label < 2 ^ 64
   pub grounded : Grounded G W
   pub linked : Linked G W
@@ -46,42 +49,39 @@ pub record Begun (k : ℕ) (before after : List NodeRecord) (fresh : List ℕ) :
   pub small : (n : ℕ) → n < k → (slice_index_or after n no_node).marks < 2 ^ 64
   pub labels : (n : ℕ) → n < k → (slice_index_or after n no_node).label ≡ (slice_index_or after n no_node).marks
   pub starts : (n : ℕ) → n < k → slice_index fresh n ≡ (slice_index_or after n no_node).marks
+  pub within : (n : ℕ) → slice_index fresh n ≢ 0 → n < k
+  pub long : length fresh ≡ 4096
 
--- what a part of a round did: `added` values are new in the labels of the first k nodes, and what was there is as near as it was
-pub record Grown (k : ℕ) (before after : List NodeRecord) (W W' next next' : List ℕ) (added : ℕ) : Type 0 where
+-- the first k words are cleared
+pub record Cleared (k : ℕ) (before after : List ℕ) : Type 0 where
+  pub below : (i : ℕ) → i < k → slice_index after i ≡ 0
+  pub past : (i : ℕ) → k ≤ i → slice_index after i ≡ slice_index before i
+  pub long : length after ≡ length before
+
+-- what a part of a round did: values are new in the labels of the first k nodes, and what was there is as near as it was
+pub record Grown (k : ℕ) (before after : List NodeRecord) (W W' next next' : List ℕ) : Type 0 where
   pub same : Relabeled k before after
   pub past : Beyond k W W'
-  pub count : held_count k after ≡ held_count k before + added
-  pub idle : added ≡ 0 → next' ≡ next
+  pub more : held_count k before ≤ held_count k after
+  pub idle : held_count k after ≡ held_count k before → next' ≡ next
   pub near : (n v j : ℕ) → v < 64 → holds (slice_index_or before n no_node).label v → distance W n v ≤ j
       → holds (slice_index_or after n no_node).label v × (distance W' n v ≤ j)
 
--- the same, where as many values are new as the labels have more
-abbrev pub GrownBy : ℕ → List NodeRecord → List NodeRecord → List ℕ → List ℕ → List ℕ → List ℕ → Type 0
-GrownBy k before after W W' next next' = Grown k before after W W' next next' (held_count k after - held_count k before)
+-- the rounds can begin: nothing is new yet
+abbrev pub Starts : Graph → List ℕ → List ℕ → Type 0
+Starts G W fresh = (next : List ℕ) → Empty next → Spread G W fresh next 0
 
--- 1 for a set that has values, and 0 for one that has none
-abbrev pub some : ℕ → ℕ
-some zero = 0
-some (suc s) = 1
+-- one more than the number of a flow, or 0 for none
+abbrev pub past_flow : Option ℕ → ℕ
+past_flow None = 0
+past_flow (Some f) = suc f
 
--- the first `count` places of `list` have the nodes whose sets of values are not empty
-pub record Listed (k : ℕ) (sets list : List ℕ) (count : ℕ) : Type 0 where
-  pub few : count ≡ sum_below k (λ n. some (slice_index sets n))
-  pub there : (n : ℕ) → n < k → slice_index sets n ≢ 0 → (j : ℕ) × (j < count) × (slice_index list j ≡ n)
-  pub within : (j : ℕ) → j < count → slice_index list j < k
-
--- one flow, which ends at node `to`, has led `added` values on
-pub record Aimed (next next' : List ℕ) (to added : ℕ) : Type 0 where
-  pub elsewhere : (n : ℕ) → n ≢ to → slice_index next' n ≡ slice_index next n
-  pub stays : slice_index next to ≢ 0 → slice_index next' to ≢ 0
-  pub lands : added ≢ 0 → slice_index next' to ≢ 0
-
--- The flows that start at one node are chained, the last first: `head` has one more than the number of the last flow of each node,
--- and `link` one more than the number of the flow before, or 0.
-pub record Chained (flows : List FlowRecord) (k : ℕ) (head link : List ℕ) : Type 0 where
-  pub last : (f : ℕ) → f < k → f < slice_index head (slice_index_or flows f no_flow).«from»
-  pub head_is : (n : ℕ) → slice_index head n ≢ 0 → (slice_index head n ≤ k) × ((slice_index_or flows (slice_index head n - 1) no_flow).«from» ≡ n)
-  pub before : (f g : ℕ) → f < g → g < k → (slice_index_or flows f no_flow).«from» ≡ (slice_index_or flows g no_flow).«from» → f < slice_index link g
-  pub link_is : (g : ℕ) → g < k → slice_index link g ≢ 0
-      → (slice_index link g ≤ g) × ((slice_index_or flows (slice_index link g - 1) no_flow).«from» ≡ (slice_index_or flows g no_flow).«from»)
+-- The flows that start at one node are chained, the last first: `head` has the last flow of each node,
+-- and `link` the flow before each flow.
+pub record Chained (flows : List FlowRecord) (k : ℕ) (head link : List (Option ℕ)) : Type 0 where
+  pub last : (f : ℕ) → f < k → f < past_flow (slice_index_or head (slice_index_or flows f no_flow).«from» None)
+  pub head_is : (n f : ℕ) → slice_index_or head n None ≡ Some f → (f < k) × ((slice_index_or flows f no_flow).«from» ≡ n)
+  pub before : (f g : ℕ) → f < g → g < k → (slice_index_or flows f no_flow).«from» ≡ (slice_index_or flows g no_flow).«from»
+      → f < past_flow (slice_index_or link g None)
+  pub link_is : (g f : ℕ) → g < k → slice_index_or link g None ≡ Some f
+      → (f < g) × ((slice_index_or flows f no_flow).«from» ≡ (slice_index_or flows g no_flow).«from»)

@@ -1,113 +1,102 @@
-//! The fresh values of one node are led on along its flows.
-ghost use Rattle.std.specs.Prelude.{◌≡◌, ℕ, ◌+◌, ◌*◌, ◌^◌, ◌<◌, ◌≤◌, length, slice_index_or, bit_or, slice_index, slice_set};
-ghost use Rattle.flows.specs.Charts.{Charted, graph_on};
+//! The values that are fresh in one round are led on along the flows.
+ghost use Rattle.std.specs.Prelude.{◌≡◌, ℕ, ◌+◌, ◌*◌, ◌^◌, ◌<◌, length, slice_index_or, bit_or, slice_index, slice_set};
+ghost use Rattle.flows.specs.Charts.{LedOn, Ready, Went, SameMemory};
 ghost use Rattle.flows.specs.Graph.{no_flow, no_node, relabeled};
-ghost use Rattle.flows.specs.Rounds.{Aimed, Grown, GrownBy, Led, Listed, Spread};
 
 use crate::charts::Chart;
+use crate::fronts::Front;
 use crate::records::NodeRecord;
 
-/// Puts `value` into the label of `node` and into `next`, and writes its words in the workspace.
-fn put(
-    nodes: &mut [NodeRecord],
-    workspace: &mut [u32],
-    next: &mut [u64],
-    node: usize,
-    value: usize,
-    distance: u32,
-    arrival: u32,
-)
-    requires { (node < length nodes.old) × (node < length next.old) × (128 * node + 127 < length workspace.old) × (value < 64) × (node < 4096) }
-    ensures nodes { nodes.new ≡ slice_set nodes.old node
-        (relabeled (slice_index_or nodes.old node no_node) (bit_or (slice_index_or nodes.old node no_node).label (2 ^ value))) }
-    ensures next { next.new ≡ slice_set next.old node (bit_or (slice_index next.old node) (2 ^ value)) }
-    ensures words { workspace.new ≡ slice_set (slice_set workspace.old (128 * node + value) distance) (128 * node + 64 + value) arrival }
-{
-    let bit = 1u64 << value;
-    nodes[node].label |= bit;
-    next[node] |= bit;
-    workspace[128 * node + value] = distance;
-    workspace[128 * node + 64 + value] = arrival;
+/// What a round reads: the chart, the values at one distance from a mark, and that distance.
+#[derive(Clone, Copy)]
+pub(crate) struct Round<'a> {
+    pub(crate) chart: Chart<'a>,
+    pub(crate) fresh: &'a Front,
+    pub(crate) distance: u32,
 }
 
-/// Leads the fresh values at the start of flow `number` on to its end, and gives how many are new there.
-fn lead_on(
-    nodes: &mut [NodeRecord],
-    workspace: &mut [u32],
-    next: &mut [u64],
-    fresh: &[u64],
-    chart: Chart,
-    number: usize,
-    distance: u32,
-) -> usize
-    requires spread { Spread (graph_on chart nodes.old) workspace.old fresh.now next.old distance }
-    requires number_within { number < chart.flow_count }
-    requires near { distance < 2 ^ 20 }
-    ensures spread { Spread (graph_on chart.entry nodes.new) workspace.new fresh.now next.new distance }
-    ensures led { Led (graph_on chart.entry nodes.new) workspace.new fresh.now distance number 64 }
-    ensures grown { Grown chart.entry.node_count nodes.old nodes.new
-        workspace.old workspace.new next.old next.new result }
-    ensures aimed { Aimed next.old next.new (slice_index_or chart.entry.flows.now number no_flow).to result }
-{
-    let flow = chart.flows[number];
-    let to = flow.to as usize;
-    let mut rest = fresh[flow.from as usize];
-    let mut added = 0;
-    if nodes[to].verified {
-        return added;
-    }
-    let mut value = 0;
-    while rest != 0 {
-        let skip = rest.trailing_zeros();
-        value += skip as usize;
-        let made = chart.rows[flow.step as usize][value] as usize;
-        if made != 0 && nodes[to].label >> made & 1 == 0 {
-            let arrival = (64 * number + value) as u32;
-            put(nodes, workspace, next, to, made, distance + 1, arrival);
-            added += 1;
-        }
-        value += 1;
-        rest = rest >> skip >> 1;
-    }
-    added
+/// What a round writes: the labels, the words that say how their values came there, and what is new.
+#[derive(Drop)]
+pub(crate) struct Wave<'a> {
+    pub(crate) nodes: &'a mut [NodeRecord],
+    pub(crate) workspace: &'a mut [u32],
+    pub(crate) next: &'a mut Front,
 }
 
-/// Leads the fresh values of `node` on along each of its flows, lists the nodes that have new values, and gives how many are listed.
-pub(crate) fn lead_from(
-    nodes: &mut [NodeRecord],
-    workspace: &mut [u32],
-    next: &mut [u64],
-    listed: &mut [u16],
-    fresh: &[u64],
-    chart: Chart,
-    node: usize,
-    listed_count: usize,
-    distance: u32,
-) -> usize
-    requires spread { Spread (graph_on chart nodes.old) workspace.old fresh.now next.old distance }
-    requires charted { Charted chart }
-    requires room { (chart.node_count ≤ length listed.old) × (node < chart.node_count) }
-    requires listed { Listed chart.node_count next.old listed.old listed_count }
-    requires near { distance < 2 ^ 20 }
-    ensures spread { Spread (graph_on chart.entry nodes.new) workspace.new fresh.now next.new distance }
-    ensures led { (f : ℕ) → f < chart.entry.flow_count → (slice_index_or chart.entry.flows.now f no_flow).«from» ≡ node
-        → Led (graph_on chart.entry nodes.new) workspace.new fresh.now distance f 64 }
-    ensures grown { GrownBy chart.entry.node_count nodes.old nodes.new
-        workspace.old workspace.new next.old next.new }
-    ensures listed { Listed chart.entry.node_count next.new listed.new result }
-{
-    let mut count = listed_count;
-    let mut cursor = chart.head[node];
-    while cursor != 0 {
-        let number = (cursor - 1) as usize;
-        let to = chart.flows[number].to;
-        let unlisted = next[to as usize] == 0;
-        let added = lead_on(nodes, workspace, next, fresh, chart, number, distance);
-        if unlisted && added != 0 {
-            listed[count] = to;
-            count += 1;
-        }
-        cursor = chart.link[number];
+impl Wave<'_> {
+    /// Puts `value` into the label of `node` and into what is new, and writes its words in the workspace.
+    fn put(&mut self, node: u16, value: u8, distance: u32, arrival: u32)
+        requires { (node < length self.old.nodes.now) × (node < 4096) × (128 * node + 127 < length self.old.workspace.now) × (value < 64) }
+        ensures nodes { self.new.nodes.now ≡ slice_set self.old.nodes.now node
+            (relabeled (slice_index_or self.old.nodes.now node no_node) (bit_or (slice_index_or self.old.nodes.now node no_node).label (2 ^ value))) }
+        ensures next { self.new.next.now ≡ slice_set self.old.next.now node (bit_or (slice_index self.old.next.now node) (2 ^ value)) }
+        ensures words { self.new.workspace.now ≡ slice_set (slice_set self.old.workspace.now (128 * node + value) distance) (128 * node + 64 + value) arrival }
+        ensures same { SameMemory self.old self.new }
+    {
+        let bit = 1u64 << value;
+        let first = 128 * node as usize;
+        self.nodes[node as usize].label |= bit;
+        self.next.add(node, bit);
+        self.workspace[first + value as usize] = distance;
+        self.workspace[first + 64 + value as usize] = arrival;
     }
-    count
+}
+
+impl Round<'_> {
+    /// Leads the fresh values at the start of flow `number` on to its end.
+    fn lead_on(&self, wave: &mut Wave, number: usize)
+        requires ready { Ready self.now wave.old }
+        requires number_within { number < length self.now.chart.flows.now }
+        ensures ready { Ready self.now wave.new }
+        ensures went { Went self.now wave.old wave.new }
+        ensures led { LedOn self.now wave.new number }
+    {
+        let flow = self.chart.flows[number];
+        if wave.nodes[flow.to as usize].verified {
+            return;
+        }
+        let mut rest = self.fresh.at(flow.from as usize);
+        let mut value = 0;
+        // Each turn goes to the next value that is there, since most sets have few: a range would try all 64.
+        while rest != 0 {
+            let skip = rest.trailing_zeros();
+            value += skip as usize;
+            let made = self.chart.rows[flow.step as usize][value];
+            if made != 0 && wave.nodes[flow.to as usize].label >> made & 1 == 0 {
+                // One word of the memory that is lent has the flow and the value.
+                let arrival = (64 * number + value) as u32;
+                wave.put(flow.to, made, self.distance + 1, arrival);
+            }
+            value += 1;
+            rest = rest >> skip >> 1;
+        }
+    }
+
+    /// Leads the fresh values of `node` on along each of its flows.
+    fn lead_from(&self, wave: &mut Wave, node: usize)
+        requires ready { Ready self.now wave.old }
+        requires node_within { node < length self.now.chart.head.now }
+        ensures ready { Ready self.now wave.new }
+        ensures went { Went self.now wave.old wave.new }
+        ensures led { (f : ℕ) → f < length self.now.chart.flows.now → (slice_index_or self.now.chart.flows.now f no_flow).«from» ≡ node
+            → LedOn self.now wave.new f }
+    {
+        let mut cursor = self.chart.head[node];
+        while let Some(number) = cursor {
+            self.lead_on(wave, number as usize);
+            cursor = self.chart.link[number as usize];
+        }
+    }
+
+    /// Leads the fresh values of all nodes on.
+    pub(crate) fn lead(&self, wave: &mut Wave)
+        requires { Ready self.now wave.old }
+        ensures ready { Ready self.now wave.new }
+        ensures went { Went self.now wave.old wave.new }
+        ensures led { (f : ℕ) → f < length self.now.chart.flows.now → LedOn self.now wave.new f }
+    {
+        for node in self.fresh.nodes() {
+            self.lead_from(wave, *node as usize);
+        }
+    }
 }

@@ -4,13 +4,15 @@
 mod chaining;
 mod charts;
 mod fitting;
+mod fronts;
 mod leading;
-mod listing;
+mod misfit;
 mod records;
 mod rounds;
 mod theorems;
 mod walking;
 
+pub use misfit::Misfit;
 pub use records::{FlowRecord, NodeRecord};
 pub use rounds::spread;
 pub use theorems::certificates_stand;

@@ -1,5 +1,5 @@
 //! The way by which a value came to a node, read off the workspace.
-ghost use Rattle.std.specs.Prelude.{◌≡◌, ◌≤◌, true, false, length, take, drop, Decides, slice_index_or};
+ghost use Rattle.std.specs.Prelude.{◌≡◌, length, slice_index_or};
 ghost use Rattle.flows.specs.Certificate.{arrival};
 ghost use Rattle.flows.specs.Graph.{no_flow};
 ghost use Rattle.flows.specs.Paths.{hops};
@@ -11,52 +11,31 @@ fn arrival_of(workspace: &[u32], node: u16, value: u8) -> u32
     ensures { result ≡ arrival workspace.now node value }
 {
     let place = 128 * node as usize + 64 + value as usize;
-    if place < workspace.len() {
-        workspace[place]
-    } else {
-        0
-    }
+    workspace.get(place).copied().unwrap_or(0)
 }
 
 /// The node where a flow starts, or 0 where there is no such flow.
 fn start_of(flows: &[FlowRecord], number: u32) -> u16
     ensures { result ≡ (slice_index_or flows.now number no_flow).«from» }
 {
-    let place = number as usize;
-    if place < flows.len() {
-        flows[place].from
-    } else {
-        0
-    }
+    flows.get(number as usize).map_or(0, |flow| flow.from)
 }
 
-/// Writes the numbers of the last `count` flows by which `value` came to `node`, in their order, where there is room for them.
+/// Fills the piece with the numbers of the last flows by which `value` came to `node`, in their order.
 ///
 /// After [`spread`](crate::spread) a value of a label has as many hops as its distance, `workspace[128 * node + value]`, and those are a shortest path from a mark.
 /// Past the end of the workspace and of the flows all reads give 0, so any arguments will do.
-pub fn walk(
-    workspace: &[u32],
-    flows: &[FlowRecord],
-    node: u16,
-    value: u8,
-    count: usize,
-    piece: &mut [u32],
-) -> bool
-    ensures fits { Decides result (count ≤ length piece.old) }
-    ensures hops { result ≡ true → take count piece.new ≡ hops workspace.now flows.now count node value }
-    ensures rest { drop count piece.new ≡ drop count piece.old }
-    ensures refused { result ≡ false → piece.new ≡ piece.old }
+pub fn walk(workspace: &[u32], flows: &[FlowRecord], node: u16, value: u8, piece: &mut [u32])
+    ensures { piece.new ≡ hops workspace.now flows.now (length piece.old) node value }
 {
-    if count > piece.len() {
-        return false;
-    }
     let mut at = node;
     let mut held = value;
-    for hop in (0..count).rev() {
+    for hop in piece.iter_mut() {
         let arrival = arrival_of(workspace, at, held);
-        piece[hop] = arrival / 64;
+        *hop = arrival / 64;
         at = start_of(flows, arrival / 64);
         held = (arrival % 64) as u8;
     }
-    true
+    // The walk goes back from the end of the path.
+    piece.reverse();
 }

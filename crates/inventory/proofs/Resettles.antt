@@ -1,5 +1,5 @@
 -- What settle leaves behind.
-use Rattle.std.proofs.Common.{◌≡◌, ℕ, zero, suc, ◌^◌, ◌<◌, ◌≤◌, true, List, [], ◌∷◌, map, length, get_or, take, sym, refl, ap, ◌∙◌, subst, arith}
+use Rattle.std.proofs.Common.{◌≡◌, ℕ, zero, suc, ◌^◌, ◌<◌, ◌≤◌, true, List, [], ◌∷◌, ◌++◌, map, length, get_or, take, drop, sym, refl, ap, ◌∙◌, subst, arith}
 use Rattle.policy.specs.Words.{in_range}
 use Rattle.ledger.specs.Ledger.{settle, after}
 use Rattle.flows.specs.declared.records.NodeRecord.{NodeRecord}
@@ -9,7 +9,8 @@ use Rattle.flows.specs.Graph.{graph}
 use Rattle.inventory.specs.View.{graph_of}
 use Rattle.flows.specs.Certificate.{Certified}
 use Rattle.flows.specs.Fitting.{Fitting}
-use Rattle.flows.specs.Settled.{Relabeled, Beyond}
+use Rattle.flows.specs.Settled.{Relabeled, Beyond, Settled}
+use Rattle.flows.proofs.Firsts.{after_long, after_past, after_small, after_same, after_certified}
 use Rattle.inventory.specs.Resettled.{Resettled}
 use Rattle.inventory.specs.Sound.{Sound, GoodNode}
 use Rattle.ledger.specs.Run.{LabelOf}
@@ -118,3 +119,13 @@ module _ (v : View) (s : Sound v) where
       let sound = settled_sound ns ws long words past same here in
       subst (λ (x : List FlowRecord). SettledAgain (After ns x ws)) (sym is)
       (sound, settled_ledger ns ws long words past same here, (λ n l. label_right (After ns v.flows ws) sound here n l (small n l)), settled_rest ns ws long words past same here)
+
+  -- what was settled over the first nodes and flows
+  pub settled_firsts : (ns : List NodeRecord) (ws : List ℕ)
+      → Settled (take v.flow_count v.flows) v.steps (length (take v.node_count v.nodes)) (length (take v.flow_count v.flows)) (take v.node_count v.nodes) ns v.workspace ws
+      → SettledAgain (After (ns ++ drop v.node_count v.nodes) v.flows ws)
+  settled_firsts ns ws done =
+      let nodes = fitting.nodes_room in
+      let flows = fitting.flows_room in
+      settled_again (ns ++ drop v.node_count v.nodes) v.flows ws (after_long _ _ _ _ _ _ nodes flows _ _ done) done.words_long (after_past _ _ _ _ _ _ nodes flows _ _ done) refl
+      (after_same _ _ _ _ _ _ nodes flows _ _ done) (after_certified _ _ _ _ _ _ nodes flows _ _ done) (after_small _ _ _ _ _ _ nodes flows _ _ done)

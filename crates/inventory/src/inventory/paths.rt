@@ -20,18 +20,19 @@ impl Inventory<'_> {
     {
         self.check_path(node, value)?;
         if !bitset::contains(self.nodes[node].label, value) {
-            return Err(Refusal {
-                reason: Reason::NotInLabel,
-                place: value as usize,
-            });
+            return Err(Reason::NotInLabel.at(value as usize));
         }
         let count = self.workspace[128 * node + value as usize] as usize;
-        if !flows::walk(self.workspace, self.flows, node as u16, value, count, piece) {
-            return Err(Refusal {
-                reason: Reason::ShortPiece,
-                place: 0,
-            });
+        if count > piece.len() {
+            return Err(Reason::ShortPiece.at(0));
         }
+        flows::walk(
+            self.workspace,
+            self.flows,
+            node as u16,
+            value,
+            &mut piece[..count],
+        );
         Ok(count)
     }
 }

@@ -43,7 +43,13 @@ impl<'a> Inventory<'a> {
             sizes,
             settled: _,
         } = self;
-        let _ = flows::spread(nodes, workspace, flows, &steps, node_count, flow_count);
+        // What the inventory holds fits, so the answer is never an error.
+        let _ = flows::spread(
+            &mut nodes[..node_count],
+            workspace,
+            &flows[..flow_count],
+            &steps,
+        );
         Inventory {
             nodes,
             flows,

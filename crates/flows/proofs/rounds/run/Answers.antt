@@ -1,55 +1,43 @@
--- Each round that lists nodes has put values into labels, so the rounds come to an end.
-use Rattle.std.proofs.Common.{ℕ, ◌^◌, ◌<◌, List, arith}
+-- Each round that leaves fresh values has put values into labels, so the rounds come to an end.
+use Rattle.std.proofs.Common.{◌≡◌, ℕ, ◌^◌, ◌<◌, List, length, sym, ◌∙◌, subst, true≢false, rules, arith}
 use Rattle.flows.specs.declared.records.NodeRecord.{NodeRecord}
 use Rattle.flows.specs.declared.records.FlowRecord.{FlowRecord}
-use Rattle.flows.proofs.Spreads.{Running, held_most, running_begun, running_more, running_end, round_grows}
+use Rattle.flows.specs.Charts.{graph_on}
+use Rattle.flows.specs.Certificate.{Certified}
+use Rattle.flows.proofs.Spreads.{Running, held_most, lit_some, running_more, running_end, round_grows}
 use Rattle.flows.proofs.rounds.run.Goals as goal
 
+-- what holds of the lists that the wave has holds of those that were lent to it
+along : (P : List NodeRecord → List ℕ → Type 0) {ns ns' : List NodeRecord} {W W' : List ℕ} → P ns' W' → ns ≡ ns' → W ≡ W' → P ns W
+along P {ns} {ns'} {W} {W'} p nodes words = subst (λ x. P x W) (sym nodes) (subst (λ x. P ns' x) (sym words) p)
+
 -- there are at most as many rounds as values in the labels
-few_rounds : {start ns : List NodeRecord} {fl : List FlowRecord} {rows : List (List ℕ)} {N F : ℕ} {W₀ W fresh next : List ℕ} {d active : ℕ}
-    → Running start ns fl rows N F W₀ W fresh next d active → d < 2 ^ 20
+few_rounds : {start ns : List NodeRecord} {fl : List FlowRecord} {rows : List (List ℕ)} {N F : ℕ} {W₀ W fresh next : List ℕ} {d : ℕ}
+    → Running start ns fl rows N F W₀ W fresh next d → d < 2 ^ 20
 few_rounds {ns = ns} {N = N} run = omega (arith, run.steps, held_most N ns, run.spread.fit.few_nodes)
 
-pub loop-active_count-init : goal.loop-active_count-init
-loop-active_count-init c = (running_begun _ _ _ _ _ _ _ _ _ c.requires.spread c.requires.none, c.requires.waiting)
+pub lead-requires : goal.lead-requires
+lead-requires c = record { charted = c.requires.charted; near = few_rounds c.loop-wave.invariant.run; spread = c.loop-wave.invariant.run.spread }
 
-pub round-count-requires : goal.round-count-requires
-round-count-requires c = record {
-  ready = record {
-    charted = c.requires.charted;
-    spread = c.loop-active_count.invariant.0.spread;
-    active_room = omega (arith, c.requires.active_room, c.loop-active_count.auto.active);
-    listed_room = omega (arith, c.requires.listed_room, c.loop-active_count.auto.listed);
-    waiting = c.loop-active_count.invariant.1;
-    none = c.loop-active_count.invariant.0.none;
-  };
-  near = few_rounds c.loop-active_count.invariant.0;
-}
-
-pub overflow_add-distance : goal.overflow_add-distance
-overflow_add-distance c = omega (arith, few_rounds c.loop-active_count.invariant.0)
-
-pub loop-active_count-smaller : goal.loop-active_count-smaller
-loop-active_count-smaller c =
+pub loop-wave-smaller : goal.loop-wave-smaller
+loop-wave-smaller c =
     omega (
       arith,
-      c.loop-active_count-test.true,
-      held_most c.args.chart.node_count c.round-count.new.nodes,
-      round_grows _ _ _ _ _ _ _ _ _ c.round-count.ensures.grown c.loop-active_count.invariant.0.none c.round-count.ensures.listed,
+      lit_some _ c.loop-wave.invariant.run.spread.fresh_long (λ e. true≢false (sym (c.is_empty.ensures.1 e) ∙ c.loop-wave-test.true)),
+      held_most (length c.args.chart.head.now) c.lead.new.wave.nodes.now,
+      round_grows _ _ _ _ _ _ _ _ c.lead.ensures.went.grown c.loop-wave.invariant.run.empty c.take.ensures.moved,
     )
 
-pub loop-active_count-preserved : goal.loop-active_count-preserved
-loop-active_count-preserved c = (
-  running_more _ _ _ _ _ _ _ _ _ _ _ _ _ _ _ _ _ _ _ c.loop-active_count-test.true c.loop-active_count.invariant.0
-      c.round-count.ensures.spread c.round-count.ensures.led c.round-count.ensures.grown c.round-count.ensures.listed
-      c.advance.auto.fresh c.advance.auto.next c.advance.ensures.moved c.advance.ensures.cleared,
-  c.advance.ensures.active,
-)
-
-pub returns : goal.returns
-returns c = record {
-  same = c.loop-active_count.invariant.0.same;
-  past = c.loop-active_count.invariant.0.past;
-  small = c.loop-active_count.invariant.0.spread.small;
-  certified = running_end _ _ _ _ _ _ _ _ _ _ _ _ _ c.loop-active_count.invariant.0 c.loop-active_count.invariant.1 c.loop-active_count-test.false;
+pub loop-wave-preserved : goal.loop-wave-preserved
+loop-wave-preserved c = record {
+  same = search rules;
+  run = running_more _ _ _ _ _ _ _ _ _ _ _ _ _ _ _ _
+      (lit_some _ c.loop-wave.invariant.run.spread.fresh_long (λ e. true≢false (sym (c.is_empty.ensures.1 e) ∙ c.loop-wave-test.true)))
+      c.loop-wave.invariant.run c.lead.ensures.ready.spread c.lead.ensures.led c.lead.ensures.went.grown c.take.ensures.long c.take.ensures.moved c.take.ensures.emptied;
 }
+
+pub returns-clause-certified : goal.returns-clause-certified
+returns-clause-certified c =
+    let done : Certified (graph_on c.args.chart c.loop-wave.wave.nodes.now) c.loop-wave.wave.workspace.now =
+    running_end _ _ _ _ _ _ _ _ _ _ _ c.loop-wave.invariant.run (c.is_empty.ensures.0 c.loop-wave-test.false) in
+    along (λ ns W. Certified (graph_on c.args.chart ns) W) done (search rules) (search rules)

@@ -1,13 +1,16 @@
 -- What holds before each round, and the room that is left in the labels.
-use Rattle.std.proofs.Common.{◌+◌, ◌-◌, ◌*◌, min}
-use Rattle.flows.specs.Rounds.{Listed, held_count}
-use Rattle.flows.proofs.Spreads.{Running}
+use Rattle.std.proofs.Common.{◌+◌, ◌-◌, ◌*◌, length}
+use Rattle.flows.specs.Charts.{SameMemory}
+use Rattle.flows.specs.Rounds.{held_count}
+use Rattle.flows.proofs.Spreads.{Running, lit}
 use Rattle.flows.proofs.rounds.run.Given as goal
 
-abbrev pub invariant-loop-active_count : goal.invariant-loop-active_count
-invariant-loop-active_count l =
-    Running l.initial.nodes l.nodes l.chart.flows.now l.chart.rows.now l.chart.node_count l.chart.flow_count l.initial.workspace l.workspace l.fresh l.next l.distance l.active_count
-    × Listed l.chart.node_count l.fresh l.active l.active_count
+abbrev pub invariant-loop-wave : goal.invariant-loop-wave
+invariant-loop-wave l = record {
+  same : SameMemory l.initial.wave l.wave;
+  run : Running l.initial.wave.nodes.now l.wave.nodes.now l.chart.flows.now l.chart.rows.now (length l.chart.head.now) (length l.chart.flows.now)
+      l.initial.wave.workspace.now l.wave.workspace.now l.fresh l.wave.next.now l.distance;
+}
 
-abbrev pub decreases-loop-active_count : goal.decreases-loop-active_count
-decreases-loop-active_count l = 2 * (64 * l.chart.node_count - held_count l.chart.node_count l.nodes) + min 1 l.active_count
+abbrev pub decreases-loop-wave : goal.decreases-loop-wave
+decreases-loop-wave l = 2 * (64 * length l.chart.head.now - held_count (length l.chart.head.now) l.wave.nodes.now) + lit l.fresh
