@@ -18,4 +18,4 @@ returns c =
     let s = sound c.args.self in
     let done = c.spread.ensures.settled (c.spread.ensures.fits.1 (fitting v s)) in
     let all = settled_again v s _ _ _ done.nodes_long done.words_long done.past refl done.same done.certified done.small in
-    record { ledger = all.1; labels = all.2; rest = all.3; nodes_lent = refl; flows_lent = refl; workspace_lent = refl }
+    record { ledger = all.1; labels = all.2; rest = all.3; lent = (refl, refl, refl) }
