@@ -6,7 +6,7 @@ use Rattle.policy.specs.Policies.{Policy}
 use Rattle.lattice.specs.Schemes.{Scheme}
 use Rattle.refusals.specs.declared.refusal.Reason.{Reason}
 use Rattle.refusals.specs.declared.refusal.Reason.TheVariants.{NoNode, NoStep, BadArgument, FlowStands, NoFlow, NoRoom, Unsettled, SizesDiffer}
-use Rattle.lattice.specs.Sets.{every}
+use Rattle.std.specs.List.{list_all}
 use Rattle.policy.specs.Words.{in_range}
 use Rattle.ledger.specs.Ledger.{Call, enter, step, mark, unmark, verify, draw, strike, settle, judge, path, same_sizes, declined, unless, good_row, good_value, stands}
 use Rattle.lattice.specs.Schemes.{scheme_sizes}
@@ -79,7 +79,7 @@ module _ (v : View) where
       → (good_row v.sizes.types row ≡ true) × (length row ≡ v.sizes.types) × (v.step_count < 32)
   step_passed row h =
       let p = passed (good_row v.sizes.types row) BadArgument 0 (unless (ltb v.step_count 32) NoRoom 0) h in
-      let front = and_parts (eqb (length row) v.sizes.types && eqb (get_or row 0 0) 0) (every (λ x. ltb (get_or row x 0) v.sizes.types) v.sizes.types) p.0 in
+      let front = and_parts (eqb (length row) v.sizes.types && eqb (get_or row 0 0) 0) (list_all (λ x. ltb x v.sizes.types) row) p.0 in
       let long = and_parts (eqb (length row) v.sizes.types) (eqb (get_or row 0 0) 0) front.0 in
       (p.0, eqb-true (length row) v.sizes.types long.0, ltb-true v.step_count 32 (passed_last (ltb v.step_count 32) NoRoom 0 p.1))
 

@@ -8,14 +8,15 @@ use Rattle.ledger.specs.Ledger.{fresh, counting, nearest_size, good_row}
 use Rattle.inventory.specs.View.{nearest_sizes}
 use Rattle.inventory.specs.View.{made_of, made_new, first_steps, ledger_of}
 use Rattle.inventory.specs.Sound.{Sound, GoodSize, GoodRows, BoundedRows, SilentRows}
-use Rattle.inventory.proofs.RowLaws.{counting_good, length_counting, padded_bounded, padded_silent, zero_table}
+use Rattle.std.proofs.lemmas.List.FromFn.{length-range_with_len}
+use Rattle.inventory.proofs.RowLaws.{counting_good, padded_bounded, padded_silent, zero_table}
 
 nearest_good : (n : ℕ) → GoodSize (nearest_size n)
 nearest_good n = (omega arith, omega arith)
 
 -- the identity, read off its row
 front : (n : ℕ) → take n (counting n ++ replicate (64 - n) 0) ≡ counting n
-front n = take_at (counting n) (replicate (64 - n) 0) n (length_counting n)
+front n = take_at (counting n) (replicate (64 - n) 0) n (length-range_with_len 0 n)
 
 first_good : (n : ℕ) → 0 < n → GoodRows n (first_steps n) 1
 first_good n pos zero l = ap (good_row n) (front n) ∙ counting_good n pos
@@ -23,14 +24,14 @@ first_good n pos (suc k) l = absurd (omega arith)
 
 first_bounded : (n : ℕ) → 0 < n → BoundedRows n (first_steps n)
 first_bounded n pos =
-    subst (λ k. BoundedRows n (set (replicate 32 (replicate 64 0)) 0 (counting n ++ replicate (64 - k) 0))) (length_counting n)
-    (padded_bounded n (replicate 32 (replicate 64 0)) 0 (counting n) (lit< tt) (counting_good n pos) (length_counting n) pos
+    subst (λ k. BoundedRows n (set (replicate 32 (replicate 64 0)) 0 (counting n ++ replicate (64 - k) 0))) (length-range_with_len 0 n)
+    (padded_bounded n (replicate 32 (replicate 64 0)) 0 (counting n) (lit< tt) (counting_good n pos) (length-range_with_len 0 n) pos
     (λ t v. omega (arith, zero_table 32 t v)))
 
 first_silent : (n : ℕ) → SilentRows n (first_steps n)
 first_silent n =
-    subst (λ k. SilentRows n (set (replicate 32 (replicate 64 0)) 0 (counting n ++ replicate (64 - k) 0))) (length_counting n)
-    (padded_silent n (replicate 32 (replicate 64 0)) 0 (counting n) (lit< tt) (length_counting n) (λ t v past. zero_table 32 t v))
+    subst (λ k. SilentRows n (set (replicate 32 (replicate 64 0)) 0 (counting n ++ replicate (64 - k) 0))) (length-range_with_len 0 n)
+    (padded_silent n (replicate 32 (replicate 64 0)) 0 (counting n) (lit< tt) (length-range_with_len 0 n) (λ t v past. zero_table 32 t v))
 
 module _ (z : Sizes) (ns : List NodeRecord) (fs : List FlowRecord) (ws : List ℕ) where
   pub fresh_sound : Sound (made_new z ns fs ws)

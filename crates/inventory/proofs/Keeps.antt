@@ -7,7 +7,7 @@ use Rattle.flows.specs.declared.records.FlowRecord.{FlowRecord}
 use Rattle.lattice.specs.Sets.{with, without}
 use Rattle.ledger.specs.Ledger.{Call, enter, step, mark, unmark, verify, draw, strike, settle, judge, path, good_row, stands, flow_number, same_flow}
 use Rattle.inventory.specs.View.{no_flow_yet}
-use Rattle.inventory.specs.View.{View, stored, put_nodes, put_flows, put_steps, record_at, entered, remarked, reverified, without_flow, flows_of, flow_of}
+use Rattle.inventory.specs.View.{View, stored, put_nodes, put_flows, put_steps, record_at, entered, drawn, remarked, reverified, without_flow, flows_of, flow_of}
 use Rattle.flows.specs.Graph.{no_node, no_flow}
 use Rattle.inventory.specs.Sound.{Sound, GoodNode, GoodFlow, Apart}
 use Rattle.inventory.specs.Checks.{refusal_of}
@@ -20,9 +20,6 @@ use Rattle.inventory.proofs.Declines.{flows_counted, enter_passed, step_passed, 
 -- a change leaves the labels Unsettled
 unsettled_labels : {P : Type 0} → ∥ (false ≡ true → P) ∥₁
 unsettled_labels = ∣ (λ e. absurd (both_ways false refl e)) ∣₁
-
-abbrev drawn : ℕ → ℕ → ℕ → FlowRecord
-drawn a b t = record { from = a; to = b; step = t }
 
 module _ (v : View) (s : Sound v) where
   -- one node record is written, at a place below the new count
@@ -124,7 +121,7 @@ module _ (v : View) (s : Sound v) where
       ap (λ f. same_flow f a b t) (read_at flow_of v.flows v.flow_count j no_flow l ∙ ap flow_of e) ∙ same_self a b t in
       both_ways (same_flow (get_or (flows_of v) j no_flow_yet) a b t) other here
 
-  keep_draw : (a b t : ℕ) → refusal_of v (draw a b t) ≡ None → Sound (put_flows v (set v.flows v.flow_count (record { from = a; to = b; step = t })) (v.flow_count + 1))
+  keep_draw : (a b t : ℕ) → refusal_of v (draw a b t) ≡ None → Sound (put_flows v (set v.flows v.flow_count (drawn a b t)) (v.flow_count + 1))
   keep_draw a b t h =
       let p = draw_passed v a b t h in
       let r = drawn a b t in

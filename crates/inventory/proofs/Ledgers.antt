@@ -6,7 +6,7 @@ use Rattle.flows.specs.declared.records.NodeRecord.{NodeRecord}
 use Rattle.lattice.specs.Sets.{with, without}
 use Rattle.ledger.specs.Ledger.{Node, Call, enter, step, mark, unmark, verify, draw, strike, settle, judge, path, changing, accepted, flow_number, with_nodes, with_flows, with_marks, with_verified, struck_at, no_node_yet}
 use Rattle.inventory.specs.View.{with_steps, no_flow_yet}
-use Rattle.inventory.specs.View.{View, stored, ledger_of, nodes_of, flows_of, steps_of, node_of, flow_of, record_at, entered, remarked, reverified, without_flow}
+use Rattle.inventory.specs.View.{View, stored, ledger_of, nodes_of, flows_of, steps_of, node_of, flow_of, record_at, entered, drawn, remarked, reverified, without_flow}
 use Rattle.flows.specs.Graph.{no_node, no_flow}
 use Rattle.inventory.specs.Sound.{Sound}
 use Rattle.inventory.specs.Checks.{refusal_of}
@@ -59,7 +59,7 @@ module _ (v : View) (s : Sound v) where
       (changed n (λ r. reverified r b) (λ y. with_verified y b) (λ r. refl) (verify_passed v n b h))
   ledger_right (draw a b t) edits h =
       ap (with_flows (ledger_of v))
-      (read_more flow_of v.flows v.flow_count (record { from = a; to = b; step = t }) (omega (arith, s.flow_fits.2, (draw_passed v a b t h).4)))
+      (read_more flow_of v.flows v.flow_count (drawn a b t) (omega (arith, s.flow_fits.2, (draw_passed v a b t h).4)))
   ledger_right (strike a b t) edits h =
       struck_right (flow_number (flows_of v) a b t)
       (λ k e. omega (arith, found_within a b t (flows_of v) k e, flows_counted v s))

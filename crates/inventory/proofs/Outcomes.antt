@@ -97,9 +97,9 @@ module _ (v : View) (s : Sound v) (c : Call) where
   pub still_sound : (w : View) → refusal_of v c ≡ None → w ≡ stored v c → Sound w
   still_sound w h is = subst Sound (sym is) (keep v s c h)
 
-  -- the exit of a `?` after the call's check
-  pub exit : {A : Type 0} (f : Result A Refusal → Answer) → ((e : Refusal) → f (Err e) ≡ refused e)
-      → (e : Refusal) (r : Result A Refusal) → Some e ≡ refusal_of v c → IsErrAnd r (λ y. y ≡ e) → Called v v c (f r)
-  exit f at_err e r h by =
-      let p = err_from_is_err_and r by in
-      refuse (f r) e (sym h) (ap f (p.1 ∙ ap Err p.2) ∙ at_err e)
+-- a call of the inventory i that its check declines: the exit of the `?`
+pub exit : (i : Inventory) (c : Call) {A : Type 0} (f : Result A Refusal → Answer) → ((e : Refusal) → f (Err e) ≡ refused e)
+    → (e : Refusal) (r : Result A Refusal) → Some e ≡ refusal_of (view i) c → IsErrAnd r (λ y. y ≡ e) → Called (view i) (view i) c (f r)
+exit i c f at_err e r h by =
+    let p = err_from_is_err_and r by in
+    refuse (view i) (sound i) c (f r) e (sym h) (ap f (p.1 ∙ ap Err p.2) ∙ at_err e)

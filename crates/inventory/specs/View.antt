@@ -108,12 +108,18 @@ remarked r m = record { store = r.store; purpose = r.purpose; role = r.role; mar
 abbrev pub reverified : NodeRecord → Bool → NodeRecord
 reverified r b = record { store = r.store; purpose = r.purpose; role = r.role; marks = r.marks; label = r.label; verified = b }
 
+abbrev pub drawn : ℕ → ℕ → ℕ → FlowRecord
+drawn a b t = record { from = a; to = b; step = t }
+
 abbrev pub record_at : View → ℕ → NodeRecord
 record_at v n = slice_index_or v.nodes n no_node
 
 -- what is declared of a node, with the data types of its label
+abbrev pub held_of : NodeRecord → Label
+held_of r = record { store = r.store; purpose = r.purpose; role = r.role; types = r.label }
+
 abbrev pub held_at : View → ℕ → Label
-held_at v n = record { store = (record_at v n).store; purpose = (record_at v n).purpose; role = (record_at v n).role; types = (record_at v n).label }
+held_at v n = held_of (record_at v n)
 
 -- the last flow's record is copied into the struck place, and the last record stays as it was
 abbrev pub without_flow : View → Option ℕ → View
@@ -126,7 +132,7 @@ stored v (step row) = put_steps v (slice_set v.steps v.step_count (row ++ replic
 stored v (mark n x) = put_nodes v (slice_set v.nodes n (remarked (record_at v n) (with (record_at v n).marks x))) v.node_count
 stored v (unmark n x) = put_nodes v (slice_set v.nodes n (remarked (record_at v n) (without (record_at v n).marks x))) v.node_count
 stored v (verify n b) = put_nodes v (slice_set v.nodes n (reverified (record_at v n) b)) v.node_count
-stored v (draw a b s) = put_flows v (slice_set v.flows v.flow_count (record { from = a; to = b; step = s })) (v.flow_count + 1)
+stored v (draw a b s) = put_flows v (slice_set v.flows v.flow_count (drawn a b s)) (v.flow_count + 1)
 stored v (strike a b s) = without_flow v (flow_number (flows_of v) a b s)
 -- these change no record of the ledger: what settle writes, its own contract says
 stored v settle = v

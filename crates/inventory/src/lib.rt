@@ -3,7 +3,6 @@
 
 mod finding;
 pub mod inventory;
-mod nodes;
 mod rows;
 mod sets;
 mod sizes;

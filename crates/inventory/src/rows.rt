@@ -1,22 +1,22 @@
 //! The rows of steps: what each value becomes.
-ghost use Rattle.std.specs.Prelude.{◌≡◌, ℕ, ◌-◌, ◌<◌, ◌≤◌, ◌++◌, length, replicate};
+ghost use Rattle.std.specs.Prelude.{◌≡◌, ℕ, ◌-◌, ◌<◌, ◌≤◌, ◌++◌, length, nat_lt, replicate};
+ghost use Rattle.std.specs.List.{list_all};
 ghost use Rattle.ledger.specs.Ledger.{good_row, counting};
 ghost use Rattle.inventory.specs.View.{first_steps};
+
+// Whether each entry is a value.
+fn all_values(size: u8, row: &[u8]) -> bool
+    ensures { result ≡ list_all (λ v. nat_lt v size) row.now }
+{
+    row.iter().all(|value| *value < size)
+}
 
 // A row has an entry for each value, each a value, and 0 becomes 0.
 pub(crate) fn good_row(size: u8, row: &[u8]) -> bool
     requires { 2 ≤ size }
     ensures { result ≡ good_row size row.now }
 {
-    if row.len() != size as usize || row[0] != 0 {
-        return false;
-    }
-    for value in row {
-        if *value >= size {
-            return false;
-        }
-    }
-    true
+    row.len() == size as usize && row[0] == 0 && all_values(size, row)
 }
 
 // The row with zeros behind it.
@@ -25,9 +25,7 @@ pub(crate) fn padded(row: &[u8]) -> [u8; 64]
     ensures { result ≡ row.now ++ replicate (64 - length row.now) 0 }
 {
     let mut all = [0; 64];
-    for (i, value) in row.iter().enumerate() {
-        all[i] = *value;
-    }
+    all[..row.len()].copy_from_slice(row);
     all
 }
 
@@ -36,11 +34,8 @@ pub(crate) fn identity(size: u8) -> [u8; 64]
     requires { size ≤ 64 }
     ensures { result ≡ counting size ++ replicate (64 - size) 0 }
 {
-    let mut all = [0; 64];
-    for value in 0..size {
-        all[value as usize] = value;
-    }
-    all
+    let values: [u8; 64] = std::array::from_fn(|value| value as u8);
+    padded(&values[..size as usize])
 }
 
 // The rows of a new inventory: the identity alone.

@@ -1,6 +1,6 @@
 //! The sizes that an inventory takes.
 ghost use Rattle.std.specs.Prelude.{◌≡◌};
-ghost use Rattle.ledger.specs.Ledger.{nearest_size, same_sizes};
+ghost use Rattle.ledger.specs.Ledger.{nearest_size};
 ghost use Rattle.inventory.specs.View.{nearest_sizes};
 
 use lattice::Sizes;
@@ -21,10 +21,4 @@ pub(crate) fn clamped(sizes: Sizes) -> Sizes
         role: nearest(sizes.role),
         types: nearest(sizes.types),
     }
-}
-
-pub(crate) fn same(a: Sizes, b: Sizes) -> bool
-    ensures { result ≡ same_sizes a b }
-{
-    a.store == b.store && a.purpose == b.purpose && a.role == b.role && a.types == b.types
 }

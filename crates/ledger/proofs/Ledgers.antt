@@ -1,9 +1,9 @@
 -- A fresh ledger is sound, and every call keeps it so. Assumes nothing.
-use Rattle.std.proofs.Common.{◌≡◌, ℕ, zero, suc, ◌-◌, ◌<◌, ◌≤◌, Bool, true, false, cond, ◌&&◌, T, eqb, ltb, List, [], ◌∷◌, ◌++◌, length, get_or, set, Some, None, Option, refl, ap, ◌∙◌, inl, inr, arith, ltb→lt, lt→ltb, length-append, length-set}
-use lib.ListN.{get_or-append}
-use lib.Seq.{get_or-append_seam}
-use Rattle.std.proofs.lemmas.Bool.{cases_lt, eq-eqb}
-use Rattle.lattice.specs.Sets.{with, without, every}
+use Rattle.std.proofs.Common.{◌≡◌, ℕ, ◌-◌, ◌<◌, ◌≤◌, Bool, true, false, ◌&&◌, T, eqb, ltb, List, [], ◌∷◌, ◌++◌, length, get_or, set, Some, None, Option, refl, arith, ltb→lt, length-append, length-set}
+use Rattle.std.proofs.lemmas.Bool.{eq-eqb, lt-ltb}
+use Rattle.std.proofs.lemmas.List.FromFn.{length-range_with_len, get_or-range_with_len}
+use Rattle.std.proofs.lemmas.List.Quantifiers.{position-Some}
+use Rattle.lattice.specs.Sets.{with, without}
 use Rattle.lattice.specs.declared.sizes.Sizes.{Sizes}
 use Rattle.policy.specs.Words.{in_range}
 use Rattle.refusals.specs.declared.refusal.Reason.{Reason}
@@ -11,9 +11,10 @@ use Rattle.ledger.specs.Ledger.{Ledger, Node, Flow, Call, enter, step, mark, unm
 use Rattle.refusals.specs.declared.refusal.Refusal.{Refusal}
 use Rattle.lattice.specs.Faults.{or_else}
 use Rattle.ledger.specs.Sound.{GoodSize, GoodNode, GoodFlow, Sound}
-use Rattle.policy.proofs.Sets.{every_from}
+use Rattle.std.specs.List.{list_all}
+use Rattle.std.proofs.lemmas.List.Sums.{list_all-from_AllPass}
 use Rattle.ledger.proofs.Lists.{Each, each_push, each_set, each_take}
-use Rattle.lattice.specs.Tests.{T_and, and_T, from_true, is_true}
+use Rattle.lattice.specs.Tests.{T_and, and_T, from_true}
 use Rattle.ledger.proofs.Ranges.{range_empty, range_with, range_without}
 
 -- ---- what it means that a call is not declined
@@ -34,29 +35,15 @@ value_parts n v h = let parts = T_and (ltb 0 v) (ltb v n) h in (ltb→lt 0 v par
 
 -- ---- a fresh ledger
 
-length_counting : (n : ℕ) → length (counting n) ≡ n
-length_counting zero = refl
-length_counting (suc n) = omega (arith, length-append (counting n) (n ∷ []), length_counting n)
-
-get_or_counting : (n v : ℕ) → v < n → get_or (counting n) v 0 ≡ v
-get_or_counting zero v low = absurd (omega arith)
-get_or_counting (suc n) v low =
-    let whole = length_counting n in
-    elim (cases_lt v n) [
-      | inl less ↦ get_or-append (counting n) (n ∷ []) 0 v (omega arith) ∙ get_or_counting n v less
-      | inr more ↦
-          let last : v ≡ length (counting n) = omega arith in
-          ap (λ k. get_or (counting n ++ (n ∷ [])) k 0) last ∙ get_or-append_seam (counting n) n [] 0 ∙ omega arith
-    ]
-
 counting_good : (n : ℕ) → 0 < n → T (good_row n (counting n))
 counting_good n some =
-    and_T (eqb (length (counting n)) n && eqb (get_or (counting n) 0 0) 0) (every (λ v. ltb (get_or (counting n) v 0) n) n)
+    and_T (eqb (length (counting n)) n && eqb (get_or (counting n) 0 0) 0) (list_all (λ v. ltb v n) (counting n))
     (and_T (eqb (length (counting n)) n) (eqb (get_or (counting n) 0 0) 0)
-    (from_true _ (eq-eqb (length (counting n)) n (length_counting n)))
-    (from_true _ (eq-eqb (get_or (counting n) 0 0) 0 (get_or_counting n 0 some))))
-    (from_true _ (every_from (λ v. ltb (get_or (counting n) v 0) n) n
-    (λ v low. is_true _ (lt→ltb (get_or (counting n) v 0) n (omega (arith, get_or_counting n v low))))))
+    (from_true _ (eq-eqb (length (counting n)) n (length-range_with_len 0 n)))
+    (from_true _ (eq-eqb (get_or (counting n) 0 0) 0 (get_or-range_with_len 0 n 0 0 some))))
+    (from_true _ (list_all-from_AllPass (λ v. ltb v n) (counting n)
+    (λ k d l. let low : k < n = omega (arith, length-range_with_len 0 n) in
+    lt-ltb (get_or (counting n) k d) n (omega (arith, get_or-range_with_len 0 n k d low)))))
 
 nearest_good : (n : ℕ) → GoodSize (nearest_size n)
 nearest_good n = (omega arith, omega arith)
@@ -106,14 +93,7 @@ struck_each P fs k low each =
     (each_set P no_flow_yet fs k (get_or fs (length fs - 1) no_flow_yet) each (each (length fs - 1) (omega arith)))
 
 flow_number_below : (fs : List Flow) (a b s k : ℕ) → flow_number fs a b s ≡ Some k → k < length fs
-flow_number_below [] a b s k h = let z : ◌≡◌ {A = ℕ} 0 1 = cc in absurd (omega arith)
-flow_number_below (f ∷ fs) a b s k h = go (same_flow f a b s) (flow_number fs a b s) (flow_number_below fs a b s) h
-  where
-    go : (here : Bool) (o : Option ℕ) → ((j : ℕ) → o ≡ Some j → j < length fs) →
-        ◌≡◌ {A = Option ℕ} (cond here (Some 0) (elim o [ Some j ↦ Some (suc j) | None ↦ None ])) (Some k) → k < suc (length fs)
-    go true o later e = let first : 0 ≡ k = cc in omega arith
-    go false (Some j) later e = let next : suc j ≡ k = cc in omega (arith, later j refl)
-    go false None later e = let z : ◌≡◌ {A = ℕ} 0 1 = cc in absurd (omega arith)
+flow_number_below fs a b s k h = (position-Some (λ f. same_flow f a b s) fs k no_flow_yet h).0
 
 struck_at_each : (P : Flow → Type 0) (fs : List Flow) (o : Option ℕ) → ((k : ℕ) → o ≡ Some k → k < length fs) → Each P no_flow_yet fs →
     Each P no_flow_yet (struck_at fs o)

@@ -1,22 +1,22 @@
 -- The values that flow paths of a sound ledger bring go from 1 to the size less 1. Assumes nothing.
-use Rattle.std.proofs.Common.{◌≡◌, ℕ, ◌<◌, ◌&&◌, T, eqb, ltb, List, [], ◌∷◌, length, get_or, ap, inl, inr, arith, eqb→eq, ltb→lt, lt→ltb}
+use Rattle.std.proofs.Common.{◌≡◌, ℕ, ◌<◌, ◌&&◌, T, eqb, ltb, List, [], ◌∷◌, length, get_or, ap, inl, inr, arith, eqb→eq, lt→ltb}
 use mathlib.Core.Logic.{∥∥₁_elim}
 use lib.Dec.{T_prop}
 use lib.ListN.{get_or-eq_default}
-use Rattle.std.proofs.lemmas.Bool.{cases_lt}
-use Rattle.lattice.specs.Sets.{every}
+use Rattle.std.proofs.lemmas.Bool.{cases_lt, ltb-true}
 use Rattle.ledger.specs.Ledger.{Ledger, good_row, good_value, node_at, flow_at, carried, Trail, IsFlowPath, Brought}
 use Rattle.ledger.specs.Sound.{Sound}
-use Rattle.policy.proofs.Sets.{every_below}
-use Rattle.lattice.specs.Tests.{T_and, and_T, is_true, from_true}
+use Rattle.std.specs.List.{list_all}
+use Rattle.std.proofs.lemmas.List.Sums.{AllPass-from_list_all}
+use Rattle.lattice.specs.Tests.{T_and, and_T, is_true}
 use Rattle.ledger.proofs.Ranges.{range_value}
 
 row_parts : (n : ℕ) (row : List ℕ) → T (good_row n row) → (length row ≡ n) × ((v : ℕ) → v < n → get_or row v 0 < n)
 row_parts n row h =
-    let parts = T_and (eqb (length row) n && eqb (get_or row 0 0) 0) (every (λ v. ltb (get_or row v 0) n) n) h in
+    let parts = T_and (eqb (length row) n && eqb (get_or row 0 0) 0) (list_all (λ v. ltb v n) row) h in
     let ends = T_and (eqb (length row) n) (eqb (get_or row 0 0) 0) parts.0 in (
       eqb→eq (length row) n ends.0,
-      λ v low. ltb→lt (get_or row v 0) n (from_true _ (every_below (λ v. ltb (get_or row v 0) n) n (is_true _ parts.1) v low)),
+      λ v low. ltb-true (get_or row v 0) n (AllPass-from_list_all (λ v. ltb v n) row (is_true _ parts.1) v 0 (omega (arith, eqb→eq (length row) n ends.0))),
     )
 
 -- a good row makes values below the size of every number

@@ -1,6 +1,7 @@
 -- The ledger: what a list of calls makes of a fresh inventory, from the calls and their arguments alone. Assumes nothing.
-use Rattle.std.specs.Prelude.{◌≡◌, ℕ, zero, suc, ◌-◌, ◌/◌, ◌<◌, ◌≤◌, min, max, Bool, true, false, cond, not, ◌&&◌, T, List, [], ◌∷◌, ◌++◌, length, take, Some, None, Option, ◌==◌, nat_lt, slice_index, slice_index_or, slice_set}
-use Rattle.lattice.specs.Sets.{has, with, without, every}
+use Rattle.std.specs.Prelude.{◌≡◌, ℕ, ◌/◌, ◌<◌, ◌≤◌, min, max, Bool, true, false, cond, not, ◌&&◌, T, List, [], ◌∷◌, ◌++◌, length, Some, None, Option, ◌==◌, is_some, nat_lt, slice_index, slice_index_or, slice_set}
+use Rattle.std.specs.List.{list_all, position, range_with_len, swap_remove}
+use Rattle.lattice.specs.Sets.{has, with, without}
 use Rattle.lattice.specs.Schemes.{Scheme, scheme_sizes}
 use Rattle.lattice.specs.Faults.{or_else}
 use Rattle.refusals.specs.declared.refusal.Refusal.{Refusal}
@@ -52,8 +53,7 @@ abbrev pub nearest_size : ℕ → ℕ
 nearest_size n = min 64 (max 2 n)
 
 abbrev pub counting : ℕ → List ℕ
-counting zero = []
-counting (suc n) = counting n ++ (n ∷ [])
+counting n = range_with_len 0 n
 
 -- fresh: the sizes asked for, and how many node records, flow records and workspace words were handed over
 abbrev pub fresh : Sizes → ℕ → ℕ → ℕ → Ledger
@@ -76,14 +76,13 @@ abbrev pub same_flow : Flow → ℕ → ℕ → ℕ → Bool
 same_flow f a b s = (f.from == a && f.to == b) && f.step == s
 
 abbrev pub flow_number : List Flow → ℕ → ℕ → ℕ → Option ℕ
-flow_number [] a b s = None
-flow_number (f ∷ fs) a b s = cond (same_flow f a b s) (Some 0) (elim (flow_number fs a b s) [ Some k ↦ Some (suc k) | None ↦ None ])
+flow_number fs a b s = position (λ f. same_flow f a b s) fs
 
 abbrev pub stands : List Flow → ℕ → ℕ → ℕ → Bool
-stands fs a b s = elim (flow_number fs a b s) [ Some k ↦ true | None ↦ false ]
+stands fs a b s = is_some (flow_number fs a b s)
 
 abbrev pub good_row : ℕ → List ℕ → Bool
-good_row n row = (length row == n && slice_index row 0 == 0) && every (λ v. nat_lt (slice_index row v) n) n
+good_row n row = (length row == n && slice_index row 0 == 0) && list_all (λ v. nat_lt v n) row
 
 abbrev pub good_value : ℕ → ℕ → Bool
 good_value n v = nat_lt 0 v && nat_lt v n
@@ -139,7 +138,7 @@ with_verified x b = record { store = x.store; purpose = x.purpose; role = x.role
 
 -- the flow numbered k goes, and the last flow takes its number
 abbrev pub struck : List Flow → ℕ → List Flow
-struck fs k = let last = length fs - 1 in take last (slice_set fs k (slice_index_or fs last (record { from = 0; to = 0; step = 0 })))
+struck fs k = swap_remove fs k (record { from = 0; to = 0; step = 0 })
 
 abbrev pub struck_at : List Flow → Option ℕ → List Flow
 struck_at fs (Some k) = struck fs k

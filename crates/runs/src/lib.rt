@@ -1,6 +1,7 @@
 //! Whole runs of the inventory: calls and answers that hold no reference, and one function that makes every call in turn.
 #![tactic(auto)]
 
+mod answers;
 pub mod calls;
 pub mod sequence;
 

@@ -2,44 +2,16 @@
 ghost use Rattle.std.specs.Prelude.{◌≡◌, length, take, IfOk, OnErr};
 ghost use Rattle.ledger.specs.Ledger.{fresh, path as asking};
 ghost use Rattle.ledger.specs.Run.{EveryCallAnswered, EveryJudgementRight};
-ghost use Rattle.inventory.specs.Answers.{plain_answer, number_answer, judged_answer};
 ghost use Rattle.runs.specs.Calls.{DoneBy, Made, Matched, One, answer_of, events, judged_by, named};
-ghost use Rattle.inventory.specs.Inventories.{view};
+ghost use Rattle.inventory.specs.Inventories.{SameMemory, view};
 ghost use Rattle.inventory.specs.View.{View, made_new};
 
 use crate::calls::{Answer, Call};
 use flows::{FlowRecord, NodeRecord};
 use inventory::Inventory;
-use lattice::{Refusal, Sizes};
-use policy::{Policy, Verdict, Vocabulary};
+use lattice::Sizes;
+use policy::{Policy, Vocabulary};
 use std::alloc::{AllocError, Global};
-
-fn plain(outcome: Result<(), Refusal>) -> Answer
-    ensures { answer_of result ≡ plain_answer outcome }
-{
-    match outcome {
-        Ok(()) => Answer::Done,
-        Err(refusal) => Answer::Refused(refusal),
-    }
-}
-
-fn numbered(outcome: Result<usize, Refusal>) -> Answer
-    ensures { answer_of result ≡ number_answer outcome }
-{
-    match outcome {
-        Ok(number) => Answer::Numbered(number),
-        Err(refusal) => Answer::Refused(refusal),
-    }
-}
-
-fn judged(outcome: Result<Verdict, Refusal>) -> Answer
-    ensures { answer_of result ≡ judged_answer outcome }
-{
-    match outcome {
-        Ok(verdict) => Answer::Judged(verdict),
-        Err(refusal) => Answer::Refused(refusal),
-    }
-}
 
 // The path by which a value comes to a node, in a piece of its own.
 fn shown(
@@ -65,7 +37,7 @@ fn shown(
 fn front(row: &[u8; 64], len: usize) -> &[u8]
     ensures { result.now ≡ take len row.now }
 {
-    &row[0..len.min(64)]
+    &row[..len.min(64)]
 }
 
 // A node judged by the scheme and the policy of these numbers, where both were handed over.
@@ -79,10 +51,9 @@ fn judge_by<V: Vocabulary>(
 ) -> Option<Answer>
     ensures { One (view inventory.now) (view inventory.now) (judged_by V.Vocabulary.orders schemes.now policies.now node scheme policy) result }
 {
-    if scheme >= schemes.len() || policy >= policies.len() {
-        return None;
-    }
-    Some(judged(inventory.judge(node, &schemes[scheme], &policies[policy])))
+    let scheme = schemes.get(scheme)?;
+    let policy = policies.get(policy)?;
+    Some(inventory.judge(node, scheme, policy).into())
 }
 
 // One call: a function of its own, so that the loop has one way.
@@ -95,22 +66,20 @@ fn make<V: Vocabulary>(
 ) -> Result<Option<Answer>, AllocError>
     ensures one { IfOk result (One (view inventory.old) (view inventory.new) (named V.Vocabulary.orders schemes.now policies.now call.now)) }
     ensures failed { OnErr result (view inventory.new ≡ view inventory.old) }
-    ensures nodes_lent { inventory.new.nodes.ghost_name ≡ inventory.old.nodes.ghost_name }
-    ensures flows_lent { inventory.new.flows.ghost_name ≡ inventory.old.flows.ghost_name }
-    ensures workspace_lent { inventory.new.workspace.ghost_name ≡ inventory.old.workspace.ghost_name }
+    ensures lent { SameMemory inventory.old inventory.new }
 {
     match call {
         Call::Enter {
             store,
             purpose,
             role,
-        } => Ok(Some(numbered(inventory.enter(*store, *purpose, *role)))),
-        Call::Step { row, len } => Ok(Some(numbered(inventory.step(front(row, *len))))),
-        Call::Mark { node, value } => Ok(Some(plain(inventory.mark(*node, *value)))),
-        Call::Unmark { node, value } => Ok(Some(plain(inventory.unmark(*node, *value)))),
-        Call::Verify { node, verified } => Ok(Some(plain(inventory.verify(*node, *verified)))),
-        Call::Draw { from, to, step } => Ok(Some(plain(inventory.draw(*from, *to, *step)))),
-        Call::Strike { from, to, step } => Ok(Some(plain(inventory.strike(*from, *to, *step)))),
+        } => Ok(Some(inventory.enter(*store, *purpose, *role).into())),
+        Call::Step { row, len } => Ok(Some(inventory.step(front(row, *len)).into())),
+        Call::Mark { node, value } => Ok(Some(inventory.mark(*node, *value).into())),
+        Call::Unmark { node, value } => Ok(Some(inventory.unmark(*node, *value).into())),
+        Call::Verify { node, verified } => Ok(Some(inventory.verify(*node, *verified).into())),
+        Call::Draw { from, to, step } => Ok(Some(inventory.draw(*from, *to, *step).into())),
+        Call::Strike { from, to, step } => Ok(Some(inventory.strike(*from, *to, *step).into())),
         Call::Settle => {
             inventory.settle();
             Ok(Some(Answer::Done))

@@ -1,5 +1,5 @@
 -- Memory beyond what an inventory can use changes nothing.
-use Rattle.std.proofs.Common.{◌≡◌, ℕ, ◌/◌, min, true, List, [], ◌∷◌, ◌++◌, length, take, refl, ap, ◌∙◌, subst, arith}
+use Rattle.std.proofs.Common.{◌≡◌, ℕ, ◌/◌, min, true, false, replicate, List, [], ◌∷◌, ◌++◌, length, take, refl, ap, ◌∙◌, subst, arith}
 use lib.ListN.{length-replicate}
 use Rattle.flows.specs.Graph.{no_node, no_flow}
 use Rattle.flows.specs.declared.records.NodeRecord.{NodeRecord}
@@ -36,6 +36,17 @@ same_fresh z n f w ns fs ws en ef ew =
     ap (λ k. min 4096 (min k (length ws / 128))) ln ∙ ap (λ k. min 4096 (min (min n 4096) (k / 128))) lw ∙ same_nodes n w in
     let more : min 16384 (length fs) ≡ min 16384 f = ap (λ k. min 16384 k) lf ∙ same_flows f in
     ap (λ k. roomed z k (min 16384 (length fs))) rooms ∙ ap (λ k. roomed z (min 4096 (min n (w / 128))) k) more
+
+-- a default record is blank
+pub blank_node : (r : NodeRecord) → (r.store ≡ 0) × ((r.purpose ≡ 0) × ((r.role ≡ 0) × ((r.marks ≡ 0) × ((r.label ≡ 0) × (r.verified ≡ false))))) → r ≡ no_node
+blank_node r (store, (purpose, (role, (marks, (label, verified))))) =
+    λ i. record { store = store i; purpose = purpose i; role = role i; marks = marks i; label = label i; verified = verified i }
+
+pub blank_flow : (r : FlowRecord) → (r.from ≡ 0) × ((r.to ≡ 0) × (r.step ≡ 0)) → r ≡ no_flow
+blank_flow r (start, (end, step)) = λ i. record { from = start i; to = end i; step = step i }
+
+pub full : {A : Type 0} (k n : ℕ) (x y : A) → k ≡ n → x ≡ y → replicate k x ≡ replicate n y
+full k n x y e₁ e₂ = λ i. replicate (e₁ i) (e₂ i)
 
 -- a vector whose whole slice was written holds what was written
 pub written : {A : Type 0} (len : ℕ) (last rest x : List A) → length last ≡ len → last ≡ x → take len (last ++ rest) ≡ x

@@ -30,38 +30,6 @@ pub struct Session {
     pub flows: Vec<FlowRecord>,
 }
 
-// No inventory uses more than 4,096 node records with 128 words each, and 16,384 flow records: more is not brought.
-fn node_records(heap: Global, nodes: usize) -> Result<Vec<NodeRecord>, AllocError>
-    ensures { IfOk result (λ v. v.items ≡ node_records nodes) }
-{
-    let empty = NodeRecord {
-        store: 0,
-        purpose: 0,
-        role: 0,
-        marks: 0,
-        label: 0,
-        verified: false,
-    };
-    Vec::from_elem(heap, empty, nodes.min(4096))
-}
-
-fn flow_records(heap: Global, flows: usize) -> Result<Vec<FlowRecord>, AllocError>
-    ensures { IfOk result (λ v. v.items ≡ flow_records flows) }
-{
-    let empty = FlowRecord {
-        from: 0,
-        to: 0,
-        step: 0,
-    };
-    Vec::from_elem(heap, empty, flows.min(16384))
-}
-
-fn workspace_words(heap: Global, words: usize) -> Result<Vec<u32>, AllocError>
-    ensures { IfOk result (λ v. v.items ≡ workspace_words words) }
-{
-    Vec::from_elem(heap, 0u32, words.min(524_288))
-}
-
 /// Makes an inventory with these rooms over memory from the heap, and every call of it in turn.
 ///
 /// Each call is answered as the ledger before it says, so every judgement is right.
@@ -78,9 +46,10 @@ pub fn run<V: Vocabulary>(
     ensures answered { IfOk result (λ s. EveryCallAnswered (fresh sizes rooms.nodes rooms.flows rooms.words) (events V.Vocabulary.orders schemes.now policies.now calls.now s.answers.items)) }
     ensures right { IfOk result (λ s. EveryJudgementRight (fresh sizes rooms.nodes rooms.flows rooms.words) (events V.Vocabulary.orders schemes.now policies.now calls.now s.answers.items)) }
 {
-    let mut nodes = node_records(heap, rooms.nodes)?;
-    let mut flows = flow_records(heap, rooms.flows)?;
-    let mut words = workspace_words(heap, rooms.words)?;
+    // No inventory uses more than 4,096 node records with 128 words each, and 16,384 flow records: more is not brought.
+    let mut nodes = vec![in heap; NodeRecord::default(); rooms.nodes.min(4096)]?;
+    let mut flows = vec![in heap; FlowRecord::default(); rooms.flows.min(16_384)]?;
+    let mut words = vec![in heap; 0u32; rooms.words.min(524_288)]?;
     let answers = runs::run(
         heap,
         sizes,

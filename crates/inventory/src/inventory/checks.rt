@@ -1,14 +1,15 @@
 //! Why a call is declined, by the counts.
-ghost use Rattle.std.specs.Prelude.{◌≡◌, ◌<◌, true, Some, None, MatchResult};
+ghost use Rattle.std.specs.Prelude.{◌≡◌, ◌<◌, true, Some, None, IfOk};
 ghost use Rattle.inventory.specs.Inventories.{view};
-ghost use Rattle.inventory.specs.View.{flows_of};
+ghost use Rattle.inventory.specs.View.{flows_of, drawn};
 ghost use Rattle.inventory.specs.Answers.{declined_by};
 ghost use Rattle.inventory.specs.Checks.{refusal_of, judge_refusal, ends_there};
 ghost use Rattle.refusals.specs.declared.refusal.Reason.TheVariants.{Unsettled};
 ghost use Rattle.ledger.specs.Ledger.{unless, flow_number, enter as entering, step as stepping, mark as marking, verify as verifying, path as asking, draw as drawing, strike as striking};
 
 use super::Inventory;
-use crate::{finding, rows, sets, sizes};
+use crate::{finding, rows, sets};
+use flows::FlowRecord;
 use lattice::{Reason, Refusal, Sizes};
 
 impl Inventory<'_> {
@@ -20,16 +21,10 @@ impl Inventory<'_> {
             || !sets::in_range(sizes.purpose, purpose)
             || !sets::in_range(sizes.role, role)
         {
-            return Err(Refusal {
-                reason: Reason::BadArgument,
-                place: 0,
-            });
+            return Err(Reason::BadArgument.at(0));
         }
         if self.node_count >= self.node_room {
-            return Err(Refusal {
-                reason: Reason::NoRoom,
-                place: 0,
-            });
+            return Err(Reason::NoRoom.at(0));
         }
         Ok(())
     }
@@ -38,16 +33,10 @@ impl Inventory<'_> {
         ensures { declined_by result ≡ refusal_of (view self.now) (stepping row.now) }
     {
         if !rows::good_row(self.sizes.types, row) {
-            return Err(Refusal {
-                reason: Reason::BadArgument,
-                place: 0,
-            });
+            return Err(Reason::BadArgument.at(0));
         }
         if self.step_count >= 32 {
-            return Err(Refusal {
-                reason: Reason::NoRoom,
-                place: 0,
-            });
+            return Err(Reason::NoRoom.at(0));
         }
         Ok(())
     }
@@ -56,23 +45,18 @@ impl Inventory<'_> {
         ensures { declined_by result ≡ refusal_of (view self.now) (verifying node true) }
     {
         if node >= self.node_count {
-            return Err(Refusal {
-                reason: Reason::NoNode,
-                place: node,
-            });
+            return Err(Reason::NoNode.at(node));
         }
         Ok(())
     }
 
-    pub(super) fn check_mark(&self, node: usize, value: u8) -> Result<(), Refusal>
+    // Whether the node is there, and the value is one that a node can be marked with.
+    pub(super) fn check_value(&self, node: usize, value: u8) -> Result<(), Refusal>
         ensures { declined_by result ≡ refusal_of (view self.now) (marking node value) }
     {
         self.check_node(node)?;
         if value == 0 || value >= self.sizes.types {
-            return Err(Refusal {
-                reason: Reason::BadArgument,
-                place: 0,
-            });
+            return Err(Reason::BadArgument.at(0));
         }
         Ok(())
     }
@@ -81,10 +65,7 @@ impl Inventory<'_> {
         ensures { declined_by result ≡ unless (view self.now).settled Unsettled 0 }
     {
         if !self.settled {
-            return Err(Refusal {
-                reason: Reason::Unsettled,
-                place: 0,
-            });
+            return Err(Reason::Unsettled.at(0));
         }
         Ok(())
     }
@@ -92,13 +73,7 @@ impl Inventory<'_> {
     pub(super) fn check_path(&self, node: usize, value: u8) -> Result<(), Refusal>
         ensures { declined_by result ≡ refusal_of (view self.now) (asking node value 0) }
     {
-        self.check_node(node)?;
-        if value == 0 || value >= self.sizes.types {
-            return Err(Refusal {
-                reason: Reason::BadArgument,
-                place: 0,
-            });
-        }
+        self.check_value(node, value)?;
         self.check_settled()
     }
 
@@ -112,68 +87,62 @@ impl Inventory<'_> {
     {
         self.check_node(node)?;
         self.check_settled()?;
-        if !sizes::same(scheme, self.sizes) || !sizes::same(policy, self.sizes) {
-            return Err(Refusal {
-                reason: Reason::SizesDiffer,
-                place: 0,
-            });
+        if scheme != self.sizes || policy != self.sizes {
+            return Err(Reason::SizesDiffer.at(0));
         }
         Ok(())
     }
 
-    fn check_ends(&self, from: usize, to: usize, step: usize) -> Result<(), Refusal>
-        ensures { declined_by result ≡ ends_there (view self.now) from to step None }
+    // The record of a flow, where its nodes and its step are there.
+    fn check_ends(&self, from: usize, to: usize, step: usize) -> Result<FlowRecord, Refusal>
+        ensures declined { declined_by result ≡ ends_there (view self.now) from to step None }
+        ensures drawn { IfOk result (λ r. r ≡ drawn from to step) }
     {
         self.check_node(from)?;
         self.check_node(to)?;
         if step >= self.step_count {
-            return Err(Refusal {
-                reason: Reason::NoStep,
-                place: step,
-            });
+            return Err(Reason::NoStep.at(step));
         }
-        Ok(())
+        Ok(FlowRecord {
+            from: from as u16,
+            to: to as u16,
+            step: step as u8,
+        })
     }
 
     // The number of a flow, where it stands.
-    fn find(&self, from: usize, to: usize, step: usize) -> Option<usize>
-        ensures { result ≡ flow_number (flows_of (view self.now)) from to step }
+    fn find(&self, flow: FlowRecord) -> Option<usize>
+        ensures { result ≡ flow_number (flows_of (view self.now)) flow.«from» flow.to flow.step }
     {
-        finding::flow_number(&self.flows[0..self.flow_count], from, to, step)
+        finding::number(&self.flows[..self.flow_count], flow)
     }
 
-    pub(super) fn check_draw(&self, from: usize, to: usize, step: usize) -> Result<(), Refusal>
-        ensures { declined_by result ≡ refusal_of (view self.now) (drawing from to step) }
+    // The record of the flow to draw.
+    pub(super) fn check_draw(
+        &self,
+        from: usize,
+        to: usize,
+        step: usize,
+    ) -> Result<FlowRecord, Refusal>
+        ensures declined { declined_by result ≡ refusal_of (view self.now) (drawing from to step) }
+        ensures drawn { IfOk result (λ r. r ≡ drawn from to step) }
     {
-        self.check_ends(from, to, step)?;
-        if self.find(from, to, step).is_some() {
-            return Err(Refusal {
-                reason: Reason::FlowStands,
-                place: 0,
-            });
+        let flow = self.check_ends(from, to, step)?;
+        if self.find(flow).is_some() {
+            return Err(Reason::FlowStands.at(0));
         }
         if self.flow_count >= self.flow_room {
-            return Err(Refusal {
-                reason: Reason::NoRoom,
-                place: 0,
-            });
+            return Err(Reason::NoRoom.at(0));
         }
-        Ok(())
+        Ok(flow)
     }
 
     // The number of the flow to strike out.
     pub(super) fn check_strike(&self, from: usize, to: usize, step: usize) -> Result<usize, Refusal>
-        ensures { MatchResult result
-            (λ k. (refusal_of (view self.now) (striking from to step) ≡ None) × (flow_number (flows_of (view self.now)) from to step ≡ Some k) × (k < self.now.flow_count))
-            (λ e. refusal_of (view self.now) (striking from to step) ≡ Some e) }
+        ensures declined { declined_by result ≡ refusal_of (view self.now) (striking from to step) }
+        ensures number { IfOk result (λ k. (flow_number (flows_of (view self.now)) from to step ≡ Some k) × (k < self.now.flow_count)) }
     {
-        self.check_ends(from, to, step)?;
-        match self.find(from, to, step) {
-            Some(place) => Ok(place),
-            None => Err(Refusal {
-                reason: Reason::NoFlow,
-                place: 0,
-            }),
-        }
+        let flow = self.check_ends(from, to, step)?;
+        self.find(flow).ok_or(Reason::NoFlow.at(0))
     }
 }

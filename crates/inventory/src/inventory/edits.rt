@@ -1,22 +1,19 @@
 //! The editing calls: a module below the struct's, so that it sees the private fields.
-ghost use Rattle.std.specs.Prelude.{◌≡◌};
-ghost use Rattle.inventory.specs.Inventories.{view};
+ghost use Rattle.inventory.specs.Inventories.{SameMemory, view};
 ghost use Rattle.inventory.specs.View.{Called};
 ghost use Rattle.inventory.specs.Answers.{plain_answer, number_answer};
 ghost use Rattle.ledger.specs.Ledger.{enter as entering, step as stepping, mark as marking, unmark as unmarking, verify as verifying, draw as drawing, strike as striking};
 
 use super::Inventory;
-use crate::{nodes, rows};
-use flows::{FlowRecord, NodeRecord};
-use lattice::Refusal;
+use crate::rows;
+use flows::NodeRecord;
+use lattice::{Refusal, bitset};
 
 impl Inventory<'_> {
     /// Enters a node with the values declared for it, and gives its number.
     pub fn enter(&mut self, store: u64, purpose: u64, role: u64) -> Result<usize, Refusal>
         ensures called { Called (view self.old) (view self.new) (entering store purpose role) (number_answer result) }
-        ensures nodes_lent { self.new.nodes.ghost_name ≡ self.old.nodes.ghost_name }
-        ensures flows_lent { self.new.flows.ghost_name ≡ self.old.flows.ghost_name }
-        ensures workspace_lent { self.new.workspace.ghost_name ≡ self.old.workspace.ghost_name }
+        ensures lent { SameMemory self.old self.new }
     {
         self.check_enter(store, purpose, role)?;
         let node = self.node_count;
@@ -24,9 +21,7 @@ impl Inventory<'_> {
             store,
             purpose,
             role,
-            marks: 0,
-            label: 0,
-            verified: false,
+            ..NodeRecord::default()
         };
         self.node_count = node + 1;
         self.settled = false;
@@ -36,9 +31,7 @@ impl Inventory<'_> {
     /// Takes a step's row, which says what each value becomes, and gives the step's number.
     pub fn step(&mut self, row: &[u8]) -> Result<usize, Refusal>
         ensures called { Called (view self.old) (view self.new) (stepping row.now) (number_answer result) }
-        ensures nodes_lent { self.new.nodes.ghost_name ≡ self.old.nodes.ghost_name }
-        ensures flows_lent { self.new.flows.ghost_name ≡ self.old.flows.ghost_name }
-        ensures workspace_lent { self.new.workspace.ghost_name ≡ self.old.workspace.ghost_name }
+        ensures lent { SameMemory self.old self.new }
     {
         self.check_step(row)?;
         let number = self.step_count;
@@ -51,12 +44,10 @@ impl Inventory<'_> {
     /// Adds a value to a node's marks.
     pub fn mark(&mut self, node: usize, value: u8) -> Result<(), Refusal>
         ensures called { Called (view self.old) (view self.new) (marking node value) (plain_answer result) }
-        ensures nodes_lent { self.new.nodes.ghost_name ≡ self.old.nodes.ghost_name }
-        ensures flows_lent { self.new.flows.ghost_name ≡ self.old.flows.ghost_name }
-        ensures workspace_lent { self.new.workspace.ghost_name ≡ self.old.workspace.ghost_name }
+        ensures lent { SameMemory self.old self.new }
     {
-        self.check_mark(node, value)?;
-        self.nodes[node] = nodes::marked(self.nodes[node], value);
+        self.check_value(node, value)?;
+        self.nodes[node].marks = bitset::insert(self.nodes[node].marks, value);
         self.settled = false;
         Ok(())
     }
@@ -64,12 +55,10 @@ impl Inventory<'_> {
     /// Takes a value from a node's marks.
     pub fn unmark(&mut self, node: usize, value: u8) -> Result<(), Refusal>
         ensures called { Called (view self.old) (view self.new) (unmarking node value) (plain_answer result) }
-        ensures nodes_lent { self.new.nodes.ghost_name ≡ self.old.nodes.ghost_name }
-        ensures flows_lent { self.new.flows.ghost_name ≡ self.old.flows.ghost_name }
-        ensures workspace_lent { self.new.workspace.ghost_name ≡ self.old.workspace.ghost_name }
+        ensures lent { SameMemory self.old self.new }
     {
-        self.check_mark(node, value)?;
-        self.nodes[node] = nodes::unmarked(self.nodes[node], value);
+        self.check_value(node, value)?;
+        self.nodes[node].marks = bitset::remove(self.nodes[node].marks, value);
         self.settled = false;
         Ok(())
     }
@@ -77,12 +66,10 @@ impl Inventory<'_> {
     /// Says whether a node is verified.
     pub fn verify(&mut self, node: usize, verified: bool) -> Result<(), Refusal>
         ensures called { Called (view self.old) (view self.new) (verifying node verified) (plain_answer result) }
-        ensures nodes_lent { self.new.nodes.ghost_name ≡ self.old.nodes.ghost_name }
-        ensures flows_lent { self.new.flows.ghost_name ≡ self.old.flows.ghost_name }
-        ensures workspace_lent { self.new.workspace.ghost_name ≡ self.old.workspace.ghost_name }
+        ensures lent { SameMemory self.old self.new }
     {
         self.check_node(node)?;
-        self.nodes[node] = nodes::verified(self.nodes[node], verified);
+        self.nodes[node].verified = verified;
         self.settled = false;
         Ok(())
     }
@@ -90,17 +77,11 @@ impl Inventory<'_> {
     /// Draws a flow from one node to another by a step.
     pub fn draw(&mut self, from: usize, to: usize, step: usize) -> Result<(), Refusal>
         ensures called { Called (view self.old) (view self.new) (drawing from to step) (plain_answer result) }
-        ensures nodes_lent { self.new.nodes.ghost_name ≡ self.old.nodes.ghost_name }
-        ensures flows_lent { self.new.flows.ghost_name ≡ self.old.flows.ghost_name }
-        ensures workspace_lent { self.new.workspace.ghost_name ≡ self.old.workspace.ghost_name }
+        ensures lent { SameMemory self.old self.new }
     {
-        self.check_draw(from, to, step)?;
+        let flow = self.check_draw(from, to, step)?;
         let last = self.flow_count;
-        self.flows[last] = FlowRecord {
-            from: from as u16,
-            to: to as u16,
-            step: step as u8,
-        };
+        self.flows[last] = flow;
         self.flow_count = last + 1;
         self.settled = false;
         Ok(())
@@ -109,9 +90,7 @@ impl Inventory<'_> {
     /// Strikes a flow out: the last flow takes its number.
     pub fn strike(&mut self, from: usize, to: usize, step: usize) -> Result<(), Refusal>
         ensures called { Called (view self.old) (view self.new) (striking from to step) (plain_answer result) }
-        ensures nodes_lent { self.new.nodes.ghost_name ≡ self.old.nodes.ghost_name }
-        ensures flows_lent { self.new.flows.ghost_name ≡ self.old.flows.ghost_name }
-        ensures workspace_lent { self.new.workspace.ghost_name ≡ self.old.workspace.ghost_name }
+        ensures lent { SameMemory self.old self.new }
     {
         let place = self.check_strike(from, to, step)?;
         let last = self.flow_count - 1;

@@ -6,29 +6,27 @@ ghost use Rattle.ledger.specs.Run.{Answered};
 ghost use Rattle.inventory.specs.Answers.{judged_answer};
 ghost use Rattle.inventory.specs.Inventories.{view, ledger};
 ghost use Rattle.inventory.specs.Promised.{Promised};
-ghost use Rattle.inventory.specs.View.{record_at, held_at};
+ghost use Rattle.inventory.specs.View.{held_of};
 
 use super::Inventory;
-use crate::nodes;
+use flows::NodeRecord;
 use lattice::Refusal;
 use policy::{Label, Policy, Verdict, Vocabulary};
 
-impl Inventory<'_> {
-    // What is declared of a node, with the data types that reach it.
-    fn held(&self, node: usize) -> Label
-        requires { node < self.now.node_count }
-        ensures label { result ≡ held_at (view self.now) node }
-        ensures small { (record_at (view self.now) node).label < 2 ^ 64 }
-    {
-        let record = self.nodes[node];
-        Label {
-            store: record.store,
-            purpose: record.purpose,
-            role: record.role,
-            types: nodes::label_of(record),
-        }
+// What is declared of a node, with the data types that reach it.
+fn held(node: NodeRecord) -> Label
+    ensures label { result ≡ held_of node }
+    ensures small { node.label < 2 ^ 64 }
+{
+    Label {
+        store: node.store,
+        purpose: node.purpose,
+        role: node.role,
+        types: node.label,
     }
+}
 
+impl Inventory<'_> {
     /// Judges a node: whether the policy allows every set of values that flow paths can bring to it, and if not, on what that rests.
     pub fn judge<V: Vocabulary>(
         &self,
@@ -40,7 +38,7 @@ impl Inventory<'_> {
         ensures promised { Promised (ledger self.now) node (V.orders scheme.now) (policy_of policy.now) result }
     {
         self.check_judge(node, scheme.sizes(), policy.sizes())?;
-        let label = self.held(node).declared(scheme);
+        let label = held(self.nodes[node]).declared(scheme);
         Ok(policy.judge(scheme, label))
     }
 }

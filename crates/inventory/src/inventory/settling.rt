@@ -2,7 +2,7 @@
 ghost use Rattle.std.specs.Prelude.{◌≡◌, ℕ, ◌<◌};
 ghost use Rattle.ledger.specs.Ledger.{after, settle as settling};
 ghost use Rattle.ledger.specs.Run.{LabelOf};
-ghost use Rattle.inventory.specs.Inventories.{view, ledger};
+ghost use Rattle.inventory.specs.Inventories.{SameMemory, view, ledger};
 ghost use Rattle.inventory.specs.View.{record_at};
 ghost use Rattle.inventory.specs.Resettled.{Resettled};
 
@@ -26,9 +26,7 @@ impl<'a> Inventory<'a> {
         ensures ledger { ledger result ≡ after (ledger self.entry) settling }
         ensures labels { (n : ℕ) → n < result.node_count → LabelOf (ledger result) n (record_at (view result) n).label }
         ensures rest { Resettled (view self.entry) (view result) }
-        ensures nodes_lent { result.nodes.ghost_name ≡ self.entry.nodes.ghost_name }
-        ensures flows_lent { result.flows.ghost_name ≡ self.entry.flows.ghost_name }
-        ensures workspace_lent { result.workspace.ghost_name ≡ self.entry.workspace.ghost_name }
+        ensures lent { SameMemory self.entry result }
     {
         let Inventory {
             nodes,
@@ -70,9 +68,7 @@ impl<'a> Inventory<'a> {
         ensures ledger { ledger self.new ≡ after (ledger self.old) settling }
         ensures labels { (n : ℕ) → n < self.new.node_count → LabelOf (ledger self.new) n (record_at (view self.new) n).label }
         ensures rest { Resettled (view self.old) (view self.new) }
-        ensures nodes_lent { self.new.nodes.ghost_name ≡ self.old.nodes.ghost_name }
-        ensures flows_lent { self.new.flows.ghost_name ≡ self.old.flows.ghost_name }
-        ensures workspace_lent { self.new.workspace.ghost_name ≡ self.old.workspace.ghost_name }
+        ensures lent { SameMemory self.old self.new }
     {
         let whole = std::mem::replace(self, Inventory::empty());
         *self = whole.resettled();

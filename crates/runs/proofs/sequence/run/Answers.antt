@@ -16,9 +16,7 @@ pub loop-call-init : goal.loop-call-init
 loop-call-init g c =
     let v = view c.new-inventory.result in (
       subst (λ (l : List (Option Answer)). DoneBy g.V.Vocabulary.orders c.args.schemes.now c.args.policies.now v [] l v) (sym c.new-answers.ensures.items) refl,
-      refl,
-      refl,
-      refl,
+      (refl, refl, refl),
     )
 
 pub loop-call-preserved : goal.loop-call-preserved
@@ -26,9 +24,7 @@ loop-call-preserved g c =
     let one = c.in_ok-answer.ensures in (
       done_next g.V.Vocabulary.orders c.args.schemes.now c.args.policies.now _ _ _ c.args.calls.now c.loop-call.call-index _ (Enter 0 0 0) _ _ _
           c.loop-call-test.true refl c.in_ok-push.ensures.items c.loop-call.invariant.0 one.one,
-      one.nodes_lent ∙ c.loop-call.invariant.1,
-      one.flows_lent ∙ c.loop-call.invariant.2,
-      one.workspace_lent ∙ c.loop-call.invariant.3,
+      (one.lent.0 ∙ c.loop-call.invariant.1.0, one.lent.1 ∙ c.loop-call.invariant.1.1, one.lent.2 ∙ c.loop-call.invariant.1.2),
     )
 
 pub returns : goal.returns
@@ -49,9 +45,9 @@ returns g c =
       memory = (
         w,
         subst (λ (u : View). DoneBy orders schemes policies u calls answers w) c.new-inventory.ensures.memory done,
-        (let lent = c.loop-call.invariant.1 in search rules),
-        (let lent = c.loop-call.invariant.2 in search rules),
-        (let lent = c.loop-call.invariant.3 in search rules),
+        (let lent = c.loop-call.invariant.1.0 in search rules),
+        (let lent = c.loop-call.invariant.1.1 in search rules),
+        (let lent = c.loop-call.invariant.1.2 in search rules),
       );
       answered = answered;
       right = fresh_runs_keep_the_promise c.args.sizes (length c.args.nodes.now) (length c.args.flows.now) (length c.args.workspace.now) _

@@ -1,12 +1,10 @@
-use Rattle.std.proofs.Common.{◌≡◌, take, vec_items}
+use Rattle.std.proofs.Common.{take, vec_items}
 use Rattle.runs.specs.Calls.{DoneBy}
-use Rattle.inventory.specs.Inventories.{view}
+use Rattle.inventory.specs.Inventories.{SameMemory, view}
 use Rattle.runs.proofs.sequence.run.Given as goal
 
 -- the calls so far were made one after another, over the same memory
 abbrev pub invariant-loop-call : goal.invariant-loop-call
 invariant-loop-call g l =
     DoneBy g.V.Vocabulary.orders l.schemes l.policies (view l.initial.inventory) (take l.call-index l.calls) (vec_items l.answers) (view l.inventory)
-    × (l.inventory.nodes.ghost_name ≡ l.initial.inventory.nodes.ghost_name)
-    × (l.inventory.flows.ghost_name ≡ l.initial.inventory.flows.ghost_name)
-    × (l.inventory.workspace.ghost_name ≡ l.initial.inventory.workspace.ghost_name)
+    × SameMemory l.initial.inventory l.inventory

@@ -11,14 +11,6 @@ use Rattle.inventory.proofs.Judges.{judge_asked, judge_answered, judge_promised,
 use Rattle.inventory.proofs.Outcomes.{sound, refused_answer}
 use Rattle.inventory.proofs.inventory.Inventory.judge.Goals as goal
 
-pub held-requires : goal.held-requires
-held-requires g c =
-    let v = view c.args.self.now in
-    let z : Scheme = g.V.Vocabulary.orders c.args.scheme.now in
-    let q = policy_of c.args.policy.now in
-    (judge_passed v c.args.node z q
-    (judge_asked v (sound c.args.self.now) c.args.node z q _ _ None c.sizes.ensures c.sizes-2.ensures c.in_ok-check_judge.ensures)).0
-
 pub returns-in_err-check_judge : goal.returns-in_err-check_judge
 returns-in_err-check_judge g c =
     let v = view c.args.self.now in

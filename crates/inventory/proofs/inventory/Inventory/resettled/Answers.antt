@@ -23,4 +23,4 @@ returns c =
     let s = sound c.args.self in
     let fit = fitting v s in
     let all = settled_firsts v s _ _ (on_ok c.spread.result c.spread.ensures.settled (c.spread.ensures.fits.1 (fits_first _ _ _ _ _ _ fit.nodes_room fit.flows_room fit))) in
-    record { ledger = all.1; labels = all.2; rest = all.3; nodes_lent = refl; flows_lent = refl; workspace_lent = refl }
+    record { ledger = all.1; labels = all.2; rest = all.3; lent = (refl, refl, refl) }
