@@ -4,64 +4,47 @@
 --   verdict_text   passed, or refused with the evidence
 --   path_text      the flows of a path
 --   answer_text    an answer to a call
-use Rattle.std.specs.Prelude.{ℕ, zero, suc, Bool, true, false, cond, List, [], ◌∷◌, ◌++◌, codes, decimal}
-use Rattle.lattice.specs.Sets.{has}
+use Rattle.std.specs.Prelude.{ℕ, Bool, true, false, List, [], ◌∷◌, ◌++◌, codes, decimal}
+use Rattle.std.specs.List.{fold, flat_map}
+use Rattle.lattice.specs.Sets.{values_of}
 use Rattle.refusals.specs.Refusals.{number_of, layer_of}
 use Rattle.refusals.specs.Texts.{words_of, layer_word}
 use Rattle.refusals.specs.declared.refusal.Refusal.{Refusal}
 use Rattle.ledger.specs.Run.{Answer, refused, done, numbered, judged, shown}
 use Rattle.runs.specs.declared.calls.Call.{Call}
-use Rattle.runs.specs.declared.calls.Call.TheVariants.{Enter, Step, Mark, Unmark, Verify, Draw, Strike, Settle, Judge, Path}
-
-abbrev pub declined_text : ℕ → ℕ → List ℕ → List ℕ → List ℕ
-declined_text number place layer words = codes "declined " ++ (decimal number ++ (codes " at " ++ (decimal place ++ (codes " (" ++ (layer ++ (codes "): " ++ words))))))
+use Rattle.runs.specs.declared.calls.Call.TheVariants.{Step}
 
 abbrev pub refusal_text : Refusal → List ℕ
-refusal_text r = declined_text (number_of r.reason) r.place (layer_word (layer_of r.reason)) (words_of r.reason)
+refusal_text r =
+    codes "declined " ++ (decimal (number_of r.reason) ++ (codes " at " ++ (decimal r.place ++ (codes " (" ++ (layer_word (layer_of r.reason) ++ (codes "): " ++ words_of r.reason))))))
 
 -- a comma goes before a value that is not the first
 abbrev pub comma_after : List ℕ → List ℕ
 comma_after [] = []
 comma_after (b ∷ bs) = codes ", "
 
--- the values below n
-unfoldable pub values_text : ℕ → ℕ → List ℕ
-values_text zero s = []
-values_text (suc n) s = cond (has s n) (values_text n s ++ (comma_after (values_text n s) ++ decimal n)) (values_text n s)
+-- a text of values with one value more
+abbrev pub one_more : List ℕ → ℕ → List ℕ
+one_more text v = text ++ (comma_after text ++ decimal v)
 
 abbrev pub set_text : ℕ → List ℕ
-set_text s = codes "{" ++ (values_text 64 s ++ codes "}")
-
-abbrev pub passed_text : ℕ → List ℕ
-passed_text clause = codes "passed by clause " ++ decimal clause
-
-abbrev pub denied_text : ℕ → List ℕ → List ℕ
-denied_text clause evidence = codes "refused by clause " ++ (decimal clause ++ (codes ", evidence " ++ evidence))
+set_text s = codes "{" ++ (fold one_more [] (values_of s) ++ codes "}")
 
 abbrev pub verdict_text : Bool → ℕ → ℕ → List ℕ
-verdict_text true clause evidence = passed_text clause
-verdict_text false clause evidence = denied_text clause (set_text evidence)
+verdict_text true clause evidence = codes "passed by clause " ++ decimal clause
+verdict_text false clause evidence = codes "refused by clause " ++ (decimal clause ++ (codes ", evidence " ++ set_text evidence))
 
-unfoldable pub flows_text : List ℕ → List ℕ
-flows_text [] = []
-flows_text (f ∷ fs) = (codes " " ++ decimal f) ++ flows_text fs
+abbrev pub flow_text : ℕ → List ℕ
+flow_text f = codes " " ++ decimal f
 
 abbrev pub path_text : List ℕ → List ℕ
 path_text [] = codes "no flow"
-path_text (f ∷ fs) = codes "flows" ++ flows_text (f ∷ fs)
+path_text (f ∷ fs) = codes "flows" ++ flat_map flow_text (f ∷ fs)
 
 -- only enter and step are answered with a number
 abbrev pub number_text : Call → ℕ → List ℕ
-number_text (Enter a b c) n = codes "node " ++ decimal n
 number_text (Step row len) n = codes "step " ++ decimal n
-number_text (Mark a v) n = codes "node " ++ decimal n
-number_text (Unmark a v) n = codes "node " ++ decimal n
-number_text (Verify a b) n = codes "node " ++ decimal n
-number_text (Draw a b c) n = codes "node " ++ decimal n
-number_text (Strike a b c) n = codes "node " ++ decimal n
-number_text Settle n = codes "node " ++ decimal n
-number_text (Judge a s p) n = codes "node " ++ decimal n
-number_text (Path a v room) n = codes "node " ++ decimal n
+number_text call n = codes "node " ++ decimal n
 
 abbrev pub answer_text : Call → Answer → List ℕ
 answer_text call (refused r) = refusal_text r

@@ -1,5 +1,9 @@
--- What is printed for a line that asks for nothing. Assumes nothing.
+-- What is wrong with a line that asks for nothing, and what is printed for it. Assumes nothing.
+--   fault_words   the fault in plain words
+--   no_number     what is wrong with a word that should be a number
 use Rattle.std.specs.Prelude.{ℕ, List, codes}
+use Rattle.lexer.specs.declared.numbers.NumberFault.{NumberFault}
+use Rattle.lexer.specs.declared.numbers.NumberFault.TheVariants as number_faults
 use Rattle.commands.specs.declared.faults.Fault.{Fault}
 use Rattle.commands.specs.declared.faults.Fault.TheVariants.{NoCommand, MissingWord, SurplusWord, NotANumber, TooLarge, NotAName, NotASet, NotYesOrNo, NoLattice, NoScheme, NoPolicy, NoInventory, TooMany}
 
@@ -17,3 +21,7 @@ fault_words NoScheme = codes "no scheme has this name"
 fault_words NoPolicy = codes "no policy has this name"
 fault_words NoInventory = codes "there is no inventory yet"
 fault_words TooMany = codes "a script has at most 4096 lattices, schemes and policies each"
+
+abbrev pub no_number : NumberFault → Fault
+no_number number_faults.NotANumber = NotANumber
+no_number number_faults.TooLarge = TooLarge

@@ -3,7 +3,8 @@
 --   meaning      by the command and the values
 --   meaning_of   of a command in memory
 -- The kinds of the arguments keep a byte below 256 and a word below 2 ^ 32 already: the bounds here change no value of a line.
-use Rattle.std.specs.Prelude.{ℕ, zero, suc, min, List, [], ◌∷◌, ◌++◌, map, length, drop, vec_items, ◌==◌, slice_index}
+use Rattle.std.specs.Prelude.{ℕ, min, List, map, length, drop, vec_items, ◌==◌, slice_index}
+use Rattle.std.specs.List.{range_with_len}
 use Rattle.lattice.specs.declared.sizes.Sizes.{Sizes}
 use Rattle.runs.specs.declared.calls.Call.{Call}
 use Rattle.runs.specs.declared.calls.Call.TheVariants as calls
@@ -31,8 +32,7 @@ word_most n = min n 4294967295
 
 -- the values of a function at the numbers below n
 unfoldable pub tabled : ℕ → (ℕ → ℕ) → List ℕ
-tabled zero f = []
-tabled (suc n) f = tabled n f ++ (f n ∷ [])
+tabled n f = map f (range_with_len 0 n)
 
 -- the row of a step: 64 entries, zeros behind those given
 abbrev pub row_of : List ℕ → List ℕ

@@ -10,17 +10,14 @@ use Rattle.lexer.specs.Names.{name_is}
 use Rattle.lexer.specs.Numbers.{number_of, up_to}
 use Rattle.lexer.specs.Sets.{set_of}
 use Rattle.commands.specs.declared.faults.Fault.{Fault}
-use Rattle.commands.specs.declared.faults.Fault.TheVariants.{NotANumber, TooLarge, NotAName, NotASet, NotYesOrNo, MissingWord, SurplusWord}
+use Rattle.commands.specs.declared.faults.Fault.TheVariants.{TooLarge, NotAName, NotASet, NotYesOrNo, MissingWord, SurplusWord}
+use Rattle.commands.specs.Faults.{no_number}
 use Rattle.commands.specs.declared.verbs.Verb.{Verb}
 use Rattle.commands.specs.declared.verbs.Kind.{Kind}
 use Rattle.commands.specs.declared.verbs.Kind.TheVariants.{Name, Number, Word, Byte, Room, Set, YesOrNo}
 use Rattle.commands.specs.Verbs.{kinds_of, more_of}
 
--- what is wrong with a word that should be a number, and with one that should be a set
-abbrev pub no_number : NumberFault → Fault
-no_number number_faults.NotANumber = NotANumber
-no_number number_faults.TooLarge = TooLarge
-
+-- what is wrong with a word that should be a set
 abbrev pub no_set : NumberFault → Fault
 no_set number_faults.NotANumber = NotASet
 no_set number_faults.TooLarge = TooLarge

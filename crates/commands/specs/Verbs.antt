@@ -1,8 +1,11 @@
 -- The commands, each with its word and the kinds of its arguments. Assumes nothing.
 --   word_of    the first word of the line
+--   Names      a result is the command that a word names, or the fault of a word that names none
 --   kinds_of   the kinds of the arguments that the command always has
 --   more_of    the kind of a further argument, by its number, where there may be one
-use Rattle.std.specs.Prelude.{ℕ, cond, List, [], ◌∷◌, Some, None, codes, Option, nat_lt}
+use Rattle.std.specs.Prelude.{◌≡◌, ◌≢◌, ℕ, cond, List, [], ◌∷◌, Some, None, codes, MatchResult, Option, Result, nat_lt}
+use Rattle.commands.specs.declared.faults.Fault.{Fault}
+use Rattle.commands.specs.declared.faults.Fault.TheVariants.{NoCommand}
 use Rattle.commands.specs.declared.verbs.Verb.{Verb}
 use Rattle.commands.specs.declared.verbs.Verb.TheVariants.{Ladder, Table, Pair, Scheme, Policy, Inventory, Enter, Step, Mark, Unmark, Verify, Draw, Strike, Settle, Judge, Path}
 use Rattle.commands.specs.declared.verbs.Kind.{Kind}
@@ -25,6 +28,9 @@ word_of Strike = codes "strike"
 word_of Settle = codes "settle"
 word_of Judge = codes "judge"
 word_of Path = codes "path"
+
+abbrev pub Names : List ℕ → Result Verb Fault → Type 0
+Names word r = MatchResult r (λ v. word ≡ word_of v) (λ f. (f ≡ NoCommand) × ((v : Verb) → word ≢ word_of v))
 
 abbrev pub kinds_of : Verb → List Kind
 kinds_of Ladder = Name ∷ Number ∷ []

@@ -1,37 +1,21 @@
 //! What is printed for an answer.
-ghost use Rattle.std.specs.Prelude.{◌≡◌, ◌++◌, IfOk, string_bytes, codes, decimal, OnOk};
+ghost use Rattle.std.specs.Prelude.{◌≡◌, ◌++◌, IfOk, string_bytes, decimal, OnOk};
 ghost use Rattle.runs.specs.Calls.{answer_of};
-ghost use Rattle.commands.specs.Answers.{answer_text, refusal_text, declined_text, passed_text, denied_text, verdict_text, number_text, path_text, set_text, comma_after, size_text, count_text, room_text};
+ghost use Rattle.commands.specs.Answers.{answer_text, refusal_text, verdict_text, number_text, path_text, set_text, comma_after, size_text, count_text, room_text};
 
 use lattice::{Refusal, bitset};
 use policy::Verdict;
 use runs::{Answer, Call};
 use std::alloc::{AllocError, Global};
 
-fn declined(
-    heap: Global,
-    number: u8,
-    place: usize,
-    layer: &str,
-    words: &str,
-) -> Result<String, AllocError>
-    ensures { IfOk result (λ s. string_bytes s ≡ declined_text number place layer.now words.now) }
-{
-    format!(in heap; "declined {number} at {place} ({layer}): {words}")
-}
-
 /// What is printed for a refusal.
 pub fn refusal_text(heap: Global, refusal: Refusal) -> Result<String, AllocError>
     ensures { IfOk result (λ s. string_bytes s ≡ refusal_text refusal) }
 {
-    let reason = refusal.reason;
-    declined(
-        heap,
-        reason.number(),
-        refusal.place,
-        reason.layer().word(),
-        reason.words(),
-    )
+    let Refusal { reason, place } = refusal;
+    let number = reason.number();
+    let layer = reason.layer();
+    format!(in heap; "declined {number} at {place} ({layer}): {reason}")
 }
 
 // The number of a node that was entered, or of a step that was added.
@@ -45,21 +29,14 @@ fn number_text(heap: Global, call: &Call, number: usize) -> Result<String, Alloc
 }
 
 // One value more, after a comma where it is not the first.
-fn push_value(heap: Global, values: &mut String, value: u8) -> Result<(), AllocError>
+fn push_value(values: &mut String, value: u8) -> Result<(), AllocError>
     ensures { OnOk result (string_bytes values.new ≡ string_bytes values.old ++ (comma_after (string_bytes values.old) ++ decimal value)) }
 {
-    let piece = if values.is_empty() {
-        format!(in heap; "{value}")?
+    if values.is_empty() {
+        write!(values, "{value}")
     } else {
-        format!(in heap; ", {value}")?
-    };
-    values.push_str(piece.as_str())
-}
-
-fn braced(heap: Global, values: &str) -> Result<String, AllocError>
-    ensures { IfOk result (λ s. string_bytes s ≡ codes "{" ++ (values.now ++ codes "}")) }
-{
-    format!(in heap; "{{{values}}}")
+        write!(values, ", {value}")
+    }
 }
 
 /// The values of a set in rising order, in braces.
@@ -67,34 +44,25 @@ pub fn set_text(heap: Global, set: u64) -> Result<String, AllocError>
     ensures { IfOk result (λ s. string_bytes s ≡ set_text set) }
 {
     let mut values = String::new(heap);
-    for value in 0..64u8 {
-        if bitset::contains(set, value) {
-            push_value(heap, &mut values, value)?;
-        }
+    for value in bitset::values(set) {
+        push_value(&mut values, value)?;
     }
-    braced(heap, values.as_str())
-}
-
-fn passed(heap: Global, clause: usize) -> Result<String, AllocError>
-    ensures { IfOk result (λ s. string_bytes s ≡ passed_text clause) }
-{
-    format!(in heap; "passed by clause {clause}")
-}
-
-fn denied(heap: Global, clause: usize, evidence: &str) -> Result<String, AllocError>
-    ensures { IfOk result (λ s. string_bytes s ≡ denied_text clause evidence.now) }
-{
-    format!(in heap; "refused by clause {clause}, evidence {evidence}")
+    format!(in heap; "{{{values}}}")
 }
 
 fn verdict_text(heap: Global, verdict: Verdict) -> Result<String, AllocError>
     ensures { IfOk result (λ s. string_bytes s ≡ verdict_text verdict.passed verdict.clause verdict.evidence) }
 {
-    if verdict.passed {
-        return passed(heap, verdict.clause);
+    let Verdict {
+        passed,
+        clause,
+        evidence,
+    } = verdict;
+    if passed {
+        return format!(in heap; "passed by clause {clause}");
     }
-    let evidence = set_text(heap, verdict.evidence)?;
-    denied(heap, verdict.clause, evidence.as_str())
+    let evidence = set_text(heap, evidence)?;
+    format!(in heap; "refused by clause {clause}, evidence {evidence}")
 }
 
 // The flows of a path.
@@ -106,8 +74,7 @@ fn path_text(heap: Global, flows: &[u32]) -> Result<String, AllocError>
     }
     let mut text = String::from_str(heap, "flows")?;
     for flow in flows {
-        let digits = format!(in heap; " {flow}")?;
-        text.push_str(digits.as_str())?;
+        write!(text, " {flow}")?;
     }
     Ok(text)
 }

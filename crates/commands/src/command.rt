@@ -7,6 +7,7 @@ use lattice::Sizes;
 use runs::Call;
 use sessions::Rooms;
 use std::alloc::{AllocError, Global};
+use std::array;
 
 /// What a line asks for. Names are left out: they are words of the line.
 #[derive(Drop)]
@@ -25,10 +26,14 @@ pub enum Command {
 fn at(values: &[u64], number: usize) -> u64
     ensures { result ≡ slice_index values.now number }
 {
-    if number < values.len() {
-        return values[number];
-    }
-    0
+    values.get(number).copied().unwrap_or(0)
+}
+
+// The same as a count or as a place in memory.
+fn place(values: &[u64], number: usize) -> usize
+    ensures { result ≡ slice_index values.now number }
+{
+    at(values, number) as usize
 }
 
 // A value whose kind keeps it below 256.
@@ -42,31 +47,23 @@ fn byte(values: &[u64], number: usize) -> u8
 fn after(values: &[u64], number: usize) -> &[u64]
     ensures { result.now ≡ drop number values.now }
 {
-    if number < values.len() {
-        return &values[number..];
-    }
-    &[]
+    values.get(number..).unwrap_or(&[])
 }
 
 // The entries of a row, with zeros behind them.
 fn row(values: &[u64]) -> [u8; 64]
     ensures { result ≡ row_of values.now }
 {
-    let mut row = [0; 64];
-    for number in 0..64usize {
-        row[number] = byte(values, number);
-    }
-    row
+    array::from_fn(|number| byte(values, number))
 }
 
 fn words(heap: Global, values: &[u64]) -> Result<Vec<u32>, AllocError>
     ensures { IfOk result (λ v. v.items ≡ map word_most values.now) }
 {
-    let mut words = Vec::new(heap);
-    for value in values {
-        words.push((*value).min(0xffff_ffff) as u32)?;
-    }
-    Ok(words)
+    values
+        .iter()
+        .map(|value| (*value).min(0xffff_ffff) as u32)
+        .collect(heap)
 }
 
 fn inventory(values: &[u64]) -> Command
@@ -80,9 +77,9 @@ fn inventory(values: &[u64]) -> Command
             types: byte(values, 3),
         },
         rooms: Rooms {
-            nodes: at(values, 4) as usize,
-            flows: at(values, 5) as usize,
-            words: at(values, 6) as usize,
+            nodes: place(values, 4),
+            flows: place(values, 5),
+            words: place(values, 6),
         },
     }
 }
@@ -97,33 +94,13 @@ fn enter(values: &[u64]) -> Command
     })
 }
 
-fn draw(values: &[u64]) -> Command
-    ensures { meaning_of result ≡ meaning Verb.Draw values.now }
-{
-    Command::Call(Call::Draw {
-        from: at(values, 0) as usize,
-        to: at(values, 1) as usize,
-        step: at(values, 2) as usize,
-    })
-}
-
-fn strike(values: &[u64]) -> Command
-    ensures { meaning_of result ≡ meaning Verb.Strike values.now }
-{
-    Command::Call(Call::Strike {
-        from: at(values, 0) as usize,
-        to: at(values, 1) as usize,
-        step: at(values, 2) as usize,
-    })
-}
-
 fn path(values: &[u64]) -> Command
     ensures { meaning_of result ≡ meaning Verb.Path values.now }
 {
     Command::Call(Call::Path {
-        node: at(values, 0) as usize,
+        node: place(values, 0),
         value: byte(values, 1),
-        room: at(values, 2) as usize,
+        room: place(values, 2),
     })
 }
 
@@ -131,10 +108,11 @@ fn path(values: &[u64]) -> Command
 pub fn meant(heap: Global, verb: Verb, values: &[u64]) -> Result<Command, AllocError>
     ensures { IfOk result (λ c. meaning_of c ≡ meaning verb values.now) }
 {
-    let node = at(values, 0) as usize;
+    let (node, value) = (place(values, 0), byte(values, 1));
+    let (from, to, step) = (node, place(values, 1), place(values, 2));
     Ok(match verb {
         Verb::Ladder => Command::Ladder {
-            levels: at(values, 1) as usize,
+            levels: place(values, 1),
         },
         Verb::Table => Command::Table {
             rows: after(values, 1).to_vec(heap)?,
@@ -150,20 +128,14 @@ pub fn meant(heap: Global, verb: Verb, values: &[u64]) -> Result<Command, AllocE
             row: row(values),
             len: values.len(),
         }),
-        Verb::Mark => Command::Call(Call::Mark {
-            node,
-            value: byte(values, 1),
-        }),
-        Verb::Unmark => Command::Call(Call::Unmark {
-            node,
-            value: byte(values, 1),
-        }),
+        Verb::Mark => Command::Call(Call::Mark { node, value }),
+        Verb::Unmark => Command::Call(Call::Unmark { node, value }),
         Verb::Verify => Command::Call(Call::Verify {
             node,
             verified: at(values, 1) == 1,
         }),
-        Verb::Draw => draw(values),
-        Verb::Strike => strike(values),
+        Verb::Draw => Command::Call(Call::Draw { from, to, step }),
+        Verb::Strike => Command::Call(Call::Strike { from, to, step }),
         Verb::Settle => Command::Call(Call::Settle),
         Verb::Judge => Command::Judge { node },
         Verb::Path => path(values),

@@ -1,8 +1,12 @@
 //! What is wrong with a line that asks for nothing.
-ghost use Rattle.std.specs.Prelude.{◌≡◌};
-ghost use Rattle.commands.specs.Faults.{fault_words};
+ghost use Rattle.std.specs.Prelude.{◌≡◌, Some};
+ghost use Rattle.commands.specs.Faults.{fault_words, no_number};
 
-#[derive(Clone, Copy)]
+use lexer::NumberFault;
+use std::error::Error;
+use std::fmt;
+
+#[derive(Clone, Copy, PartialEq, Eq, Debug)]
 pub enum Fault {
     /// The first word is no command.
     NoCommand,
@@ -41,6 +45,27 @@ impl Fault {
             Fault::NoPolicy => "no policy has this name",
             Fault::NoInventory => "there is no inventory yet",
             Fault::TooMany => "a script has at most 4096 lattices, schemes and policies each",
+        }
+    }
+}
+
+impl fmt::Display for Fault {
+    ghost output = { λ f. Some (fault_words f) };
+
+    fn fmt<W: fmt::Write>(&self, f: &mut fmt::Formatter<W>) -> fmt::Result {
+        f.write_str(self.words())
+    }
+}
+
+impl Error for Fault {}
+
+impl From<NumberFault> for Fault {
+    ghost from_gives = { λ e f. f ≡ no_number e };
+
+    fn from(fault: NumberFault) -> Fault {
+        match fault {
+            NumberFault::NotANumber => Fault::NotANumber,
+            NumberFault::TooLarge => Fault::TooLarge,
         }
     }
 }

@@ -1,11 +1,12 @@
 //! The commands of a script, each with the kinds of its arguments.
 ghost use Rattle.std.specs.Prelude.{◌≡◌, MatchOption, ◌≢◌};
-ghost use Rattle.commands.specs.Verbs.{word_of, kinds_of, more_of};
+ghost use Rattle.commands.specs.Verbs.{Names, word_of, kinds_of, more_of};
 
-use std::str::from_utf8;
+use crate::faults::Fault;
+use std::str::{FromStr, from_utf8};
 
 /// What the first word of a line asks for.
-#[derive(Clone, Copy)]
+#[derive(Clone, Copy, PartialEq, Eq, Debug)]
 pub enum Verb {
     Ladder,
     Table,
@@ -26,7 +27,7 @@ pub enum Verb {
 }
 
 /// What a word of a line has to be.
-#[derive(Clone, Copy)]
+#[derive(Clone, Copy, PartialEq, Eq, Debug)]
 pub enum Kind {
     Name,
     /// A number of 64 bits.
@@ -41,40 +42,53 @@ pub enum Kind {
     YesOrNo,
 }
 
-impl Verb {
-    // The command that a text names.
-    fn of(word: &str) -> Option<Verb>
-        ensures { MatchOption result ((v : Verb) → word.now ≢ word_of v) (λ v. word.now ≡ word_of v) }
-    {
+impl FromStr for Verb {
+    type Err = Fault;
+
+    ghost from_str_gives = { Names };
+
+    fn from_str(word: &str) -> Result<Verb, Fault> {
         match word {
-            "ladder" => Some(Verb::Ladder),
-            "table" => Some(Verb::Table),
-            "pair" => Some(Verb::Pair),
-            "scheme" => Some(Verb::Scheme),
-            "policy" => Some(Verb::Policy),
-            "inventory" => Some(Verb::Inventory),
-            "enter" => Some(Verb::Enter),
-            "step" => Some(Verb::Step),
-            "mark" => Some(Verb::Mark),
-            "unmark" => Some(Verb::Unmark),
-            "verify" => Some(Verb::Verify),
-            "draw" => Some(Verb::Draw),
-            "strike" => Some(Verb::Strike),
-            "settle" => Some(Verb::Settle),
-            "judge" => Some(Verb::Judge),
-            "path" => Some(Verb::Path),
-            _ => None,
+            "ladder" => Ok(Verb::Ladder),
+            "table" => Ok(Verb::Table),
+            "pair" => Ok(Verb::Pair),
+            "scheme" => Ok(Verb::Scheme),
+            "policy" => Ok(Verb::Policy),
+            "inventory" => Ok(Verb::Inventory),
+            "enter" => Ok(Verb::Enter),
+            "step" => Ok(Verb::Step),
+            "mark" => Ok(Verb::Mark),
+            "unmark" => Ok(Verb::Unmark),
+            "verify" => Ok(Verb::Verify),
+            "draw" => Ok(Verb::Draw),
+            "strike" => Ok(Verb::Strike),
+            "settle" => Ok(Verb::Settle),
+            "judge" => Ok(Verb::Judge),
+            "path" => Ok(Verb::Path),
+            _ => Err(Fault::NoCommand),
         }
     }
+}
 
+impl<'a> TryFrom<&'a [u8]> for Verb {
+    type Error = Fault;
+
+    ghost try_from_gives = { λ word r. Names word.now r };
+
+    fn try_from(word: &'a [u8]) -> Result<Verb, Fault> {
+        match from_utf8(word) {
+            Ok(text) => text.parse(),
+            Err(_) => Err(Fault::NoCommand),
+        }
+    }
+}
+
+impl Verb {
     /// The command that a word names; any other word names none.
     pub fn named(word: &[u8]) -> Option<Verb>
         ensures { MatchOption result ((v : Verb) → word.now ≢ word_of v) (λ v. word.now ≡ word_of v) }
     {
-        match from_utf8(word) {
-            Ok(text) => Verb::of(text),
-            Err(_) => None,
-        }
+        Verb::try_from(word).ok()
     }
 
     /// The kinds of the arguments that the command always has.
@@ -113,7 +127,7 @@ impl Verb {
         match self {
             Verb::Table => Some(Kind::Number),
             Verb::Policy => Some(Kind::Word),
-            Verb::Step => { if at < 64 { Some(Kind::Byte) } else { None } }
+            Verb::Step if at < 64 => Some(Kind::Byte),
             _ => None,
         }
     }

@@ -1,54 +1,10 @@
 -- The pieces of a set, one after another.
-use Rattle.std.proofs.Common.{◌≡◌, ℕ, suc, ◌+◌, ◌-◌, ◌<◌, ◌≤◌, true, false, not, eqb, List, [], ◌∷◌, length, take, drop, Ok, Err, Result, sym, refl, ◌∙◌, inl, inr, add-one, arith}
-use Rattle.std.specs.List.{prefix_len}
-use Rattle.std.proofs.lemmas.List.{take_rest}
-use Rattle.std.proofs.lemmas.Bool.{cases_Bool, cases_lt, not_from_true, not_from_false, cond-true, cond-false}
-use Rattle.lexer.specs.Classes.{belongs}
-use Rattle.lexer.specs.Lines.{onto}
+use Rattle.std.proofs.Common.{◌≡◌, ℕ, ◌+◌, ◌<◌, true, false, eqb, List, [], ◌∷◌, length, get_or, drop, Ok, Err, Result, sym, refl, ◌∙◌, inl, inr, add-one, drop-cons, arith}
+use Rattle.std.proofs.lemmas.Bool.{cases_Bool, false_from_ne_true, eqb-true, cond-true, cond-false}
+use Rattle.std.specs.Cmp.Lexicographic.{pointwise}
 use Rattle.lexer.specs.Numbers.{number_of, up_to}
 use Rattle.lexer.specs.Sets.{pieces, gather, with_value, is_dash, set_of}
-use Rattle.lexer.specs.declared.classes.Class.TheVariants.{Piece}
 use Rattle.lexer.specs.declared.numbers.NumberFault.{NumberFault}
-use Rattle.lexer.proofs.Fronts.{front, front_none, front_stop, front_goes}
-
-abbrev piece_end : List ℕ → ℕ
-piece_end bs = front (λ b. not (eqb b 44)) bs
-
-piece_none : pieces [] ≡ [] ∷ []
-unfolding pieces
-piece_none = refl
-
-piece_here : (b : ℕ) (bs : List ℕ) → eqb b 44 ≡ true → pieces (b ∷ bs) ≡ [] ∷ pieces bs
-unfolding pieces
-piece_here b bs e = simp e
-
-piece_later : (b : ℕ) (bs : List ℕ) → eqb b 44 ≡ false → pieces (b ∷ bs) ≡ onto b (pieces bs)
-unfolding pieces
-piece_later b bs e = simp e
-
--- a piece ends before a comma
-pieces_cut : (bs : List ℕ) → piece_end bs < length bs → pieces bs ≡ take (piece_end bs) bs ∷ pieces (drop (suc (piece_end bs)) bs)
-pieces_cut [] h = absurd (omega arith)
-pieces_cut (b ∷ bs) h =
-    elim (cases_Bool (eqb b 44)) [
-      | inl e ↦ rw (piece_here b bs e, front_stop _ b bs (not_from_true _ e))
-      | inr e ↦
-          let goes : piece_end (b ∷ bs) ≡ suc (piece_end bs) = front_goes _ b bs (not_from_false _ e) in
-          let less : piece_end bs < length bs = omega arith in
-          rw (piece_later b bs e, goes, pieces_cut bs less)
-    ]
-
--- without a comma it is the last
-pieces_last : (bs : List ℕ) → length bs ≤ piece_end bs → pieces bs ≡ take (piece_end bs) bs ∷ []
-pieces_last [] h = rw (piece_none, front_none)
-pieces_last (b ∷ bs) h =
-    elim (cases_Bool (eqb b 44)) [
-      | inl e ↦ absurd (omega (arith, front_stop (λ x. not (eqb x 44)) b bs (not_from_true _ e)))
-      | inr e ↦
-          let goes : piece_end (b ∷ bs) ≡ suc (piece_end bs) = front_goes _ b bs (not_from_false _ e) in
-          let less : length bs ≤ piece_end bs = omega arith in
-          rw (piece_later b bs e, goes, pieces_last bs less)
-    ]
 
 pub gather_ok : (found v : ℕ) (piece : List ℕ) (more : List (List ℕ)) → up_to 63 (number_of piece) ≡ Ok v
     → gather found (piece ∷ more) ≡ gather (with_value found v) more
@@ -64,30 +20,26 @@ pub gather_none : (found : ℕ) → gather found [] ≡ Ok found
 unfolding gather
 gather_none found = refl
 
-module _ (found end : ℕ) (rest : List ℕ) (is : end ≡ prefix_len (belongs Piece) rest) where
-  cut : end < length rest → pieces rest ≡ take end rest ∷ pieces (drop (end + 1) rest)
-  unfolding front
-  cut h = rw (add-one, is) (pieces_cut rest (omega (arith, is)))
+-- the piece of number n
+module _ (found n : ℕ) (all : List (List ℕ)) (piece : List ℕ) (at : (n < length all) × (piece ≡ get_or all n piece)) where
+  turn : drop n all ≡ piece ∷ drop (n + 1) all
+  turn = let h : n < length all = at.0 in rw (add-one, drop-cons all n piece, ← at.1)
 
-  last : length rest ≤ end → pieces rest ≡ take end rest ∷ []
-  unfolding front
-  last h = rw is (pieces_last rest (omega (arith, is)))
+  pub set_more : (v next : ℕ) → next ≡ with_value found v → Ok v ≡ up_to 63 (number_of piece) → gather next (drop (n + 1) all) ≡ gather found (drop n all)
+  set_more v next is e = rw (is, turn) (sym (gather_ok found v piece _ (sym e)))
 
-  pub set_more : (v next : ℕ) → next ≡ with_value found v → end < length rest → Ok v ≡ up_to 63 (number_of (take end rest))
-      → gather next (pieces (take (length rest - (end + 1)) (drop (end + 1) rest))) ≡ gather found (pieces rest)
-  set_more v next n h e = rw (n, take_rest rest (end + 1), cut h) (sym (gather_ok found v (take end rest) _ (sym e)))
+  pub set_fault : (fault : NumberFault) → Err fault ≡ up_to 63 (number_of piece) → Err fault ≡ gather found (drop n all)
+  set_fault fault e = rw turn (sym (gather_err found fault piece _ (sym e)))
 
-  pub set_last : (v : ℕ) → end ≡ length rest → Ok v ≡ up_to 63 (number_of (take end rest)) → Ok (with_value found v) ≡ gather found (pieces rest)
-  set_last v h e = rw (last (omega arith)) (sym (gather_ok found v (take end rest) _ (sym e) ∙ gather_none (with_value found v)))
+-- a test for the word '-' (45)
+pub dash_is : (word : List ℕ) → pointwise eqb word (45 ∷ []) ≡ is_dash word
+dash_is [] = refl
+dash_is (b ∷ []) = elim (cases_Bool (eqb b 45)) [ inl e ↦ rw e | inr e ↦ rw e ]
+dash_is (b ∷ c ∷ bs) =
+    let long : eqb (length (b ∷ c ∷ bs)) 1 ≡ false = false_from_ne_true _ (λ e. omega (arith, eqb-true (length (b ∷ c ∷ bs)) 1 e)) in
+    elim (cases_Bool (eqb b 45)) [ inl e ↦ rw (e, long) | inr e ↦ rw (e, long) ]
 
-  pub set_fault : (fault : NumberFault) → Err fault ≡ up_to 63 (number_of (take end rest)) → Err fault ≡ gather found (pieces rest)
-  set_fault fault e =
-      elim (cases_lt end (length rest)) [
-        | inl h ↦ rw (cut h) (sym (gather_err found fault (take end rest) _ (sym e)))
-        | inr h ↦ rw (last h) (sym (gather_err found fault (take end rest) _ (sym e)))
-      ]
-
--- what the rest of the pieces gives is what the word writes
+-- what the pieces give is what the word writes
 pub set_from : (word : List ℕ) (r : Result ℕ NumberFault) → is_dash word ≡ false → r ≡ gather 0 (pieces word) → r ≡ set_of word
 unfolding set_of
 set_from word r d e = e ∙ sym (cond-false (is_dash word) (Ok 0) (gather 0 (pieces word)) d)

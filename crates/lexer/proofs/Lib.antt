@@ -1,8 +1,9 @@
 -- The lemmas.
 pub mod Fronts
 pub mod LineCuts
+pub mod Bits
+pub mod Positions
 pub mod WordCuts
 pub mod Values
 pub mod Gathers
-pub mod Bits
 pub mod SetLaws

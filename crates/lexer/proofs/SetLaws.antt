@@ -1,7 +1,6 @@
 -- A set has the numbers of its pieces and no others.
 use Rattle.std.proofs.Common.{◌≡◌, ℕ, true, false, eqb, ◌⊎◌, List, [], ◌∷◌, length, IfOk, Some, None, Ok, Err, Decides, Option, Result, sym, refl, ◌∙◌, subst, inl, inr, arith}
 use Rattle.std.proofs.lemmas.Bool.{cases_Bool, cases_lt, and_parts, eqb-true, both_ways, le-leb, lt-leb, cond-true, cond-false}
-use Rattle.lexer.specs.Classes.{every}
 use Rattle.lexer.specs.Numbers.{number_of, up_to}
 use Rattle.lexer.specs.Sets.{has_value, with_value, pieces, gather, is_dash, set_of, Among, Members}
 use Rattle.lexer.specs.declared.numbers.NumberFault.{NumberFault}
@@ -54,7 +53,7 @@ dash (b ∷ []) e = let h = and_parts (eqb (length (b ∷ [])) 1) (eqb b 45) e i
 dash (b ∷ c ∷ bs) e = let h = and_parts (eqb (length (b ∷ c ∷ bs)) 1) (eqb b 45) e in absurd (omega (arith, eqb-true (length (b ∷ c ∷ bs)) 1 h.0))
 
 dash_empty : (v : ℕ) → Among v (pieces (45 ∷ [])) → ⊥
-unfolding pieces number_of every
+unfolding number_of
 dash_empty v (inl e) = let z : ◌≡◌ {A = ℕ} 0 1 = cc in omega arith
 dash_empty v (inr none) = none
 

@@ -1,77 +1,91 @@
--- The value of digits, read from the left up to a bound.
-use Rattle.std.proofs.Common.{◌≡◌, ℕ, ◌+◌, ◌-◌, ◌*◌, ◌/◌, ◌<◌, ◌≤◌, true, false, eqb, List, [], ◌∷◌, length, get_or, take, drop, Some, None, Ok, Err, Option, Result, sym, ap, ◌∙◌, inl, inr, div-lt_iff_lt-mul, mul-le-mul_left, le-div_iff_mul-le, mul-one, arith}
-use Rattle.std.specs.Str.Parse.{digits_value, digits_value_after}
+-- The numbers that digits and marks write.
+use Rattle.std.proofs.Common.{◌≡◌, ℕ, ◌^◌, ◌<◌, ◌≤◌, Bool, true, false, eqb, ltb, List, [], ◌∷◌, length, take, drop, Some, None, Ok, Err, Option, Result, sym, refl, ap, ◌∙◌, inl, inr, arith}
 use Rattle.std.specs.Char.{digit_value}
-use Rattle.lexer.specs.Numbers.{at_most, in_base, is_marked, number_of, up_to}
+use Rattle.std.specs.List.{list_all}
+use Rattle.std.specs.Str.{IsUtf8, IsAscii}
+use Rattle.std.specs.Str.Parse.{AllDigits, digits_value, without_leading_plus, IsNumeral}
+use Rattle.std.specs.Cmp.Lexicographic.{pointwise}
+use Rattle.std.proofs.lemmas.Bool.{cases_Bool, cases_lt, and_parts, ltb-true, le-leb, lt-leb, eqb-true, cond-true, cond-false}
+use Rattle.std.proofs.lemmas.Str.{IsUtf8-from_ascii}
+use Rattle.std.proofs.lemmas.Str.Ascii.{IsAscii-nil, IsAscii-cons}
+use Rattle.lexer.specs.Classes.{one_or_more}
+use Rattle.lexer.specs.Numbers.{in_base, is_marked, number_of, up_to}
 use Rattle.lexer.specs.declared.numbers.NumberFault.{NumberFault}
 use Rattle.lexer.specs.declared.numbers.NumberFault.TheVariants.{TooLarge}
-use Rattle.std.proofs.lemmas.List.{at_drop_more, at_drop_all, get_or_past, take_rest}
-use Rattle.std.proofs.lemmas.Bool.{le-leb, lt-leb, cases_lt, and_right, cond-true, cond-false}
 
-pub at_most_below : (most n : ℕ) → n ≤ most → Some n ≡ at_most most n
-at_most_below most n h = rw (le-leb n most h)
+digit_ascii : (c : ℕ) → digit_value c < 36 → c < 128
+digit_ascii c h = grind (arith)
 
-pub at_most_above : (most n : ℕ) → most < n → None ≡ at_most most n
-at_most_above most n h = rw (lt-leb n most h)
+module _ (base : ℕ) (high : base ≤ 36) where
+  abbrev is_digit : ℕ → Bool
+  is_digit d = ltb (digit_value d) base
 
-at_most_some : (most n x : ℕ) → Some x ≡ at_most most n → (x ≡ n) × (n ≤ most)
-at_most_some most n x e =
-    elim (cases_lt most n) [
-      | inl h ↦ let k = at_most_above most n h in let z : ◌≡◌ {A = ℕ} 0 1 = cc in absurd (omega arith)
-      | inr h ↦ let k = at_most_below most n h in (cc, h)
-    ]
+  digits_all : (ds : List ℕ) → list_all is_digit ds ≡ true → AllDigits base ds
+  digits_all [] h = search
+  digits_all (d ∷ ds) h = let k = and_parts (is_digit d) (list_all is_digit ds) h in (ltb-true _ _ k.0, digits_all ds k.1)
 
-at_most_none : (most n : ℕ) → None ≡ at_most most n → most < n
-at_most_none most n e =
-    elim (cases_lt most n) [
-      | inl h ↦ h
-      | inr h ↦ let k = at_most_below most n h in let z : ◌≡◌ {A = ℕ} 0 1 = cc in absurd (omega arith)
-    ]
+  digits_ascii : (ds : List ℕ) → AllDigits base ds → IsAscii ds
+  digits_ascii [] h = IsAscii-nil
+  digits_ascii (d ∷ ds) h = IsAscii-cons d ds (digit_ascii d (omega (arith, h.0))) (digits_ascii ds h.1)
 
--- more digits never make a number smaller
-value_after_ge : (base n : ℕ) (ds : List ℕ) → 0 < base → n ≤ digits_value_after base n ds
-value_after_ge base n [] h = omega arith
-value_after_ge base n (d ∷ ds) h =
-    let more : n * 1 ≤ n * base = mul-le-mul_left n h in
-    omega (arith, more, mul-one n, value_after_ge base (n * base + digit_value d) ds h)
+-- digits as the library reads them from a text: none is a sign
+module _ (base : ℕ) (high : base ≤ 36) (ds : List ℕ) (numeral : one_or_more (λ d. ltb (digit_value d) base) ds ≡ true) where
+  parts : (ltb 0 (length ds) ≡ true) × (list_all (λ d. ltb (digit_value d) base) ds ≡ true)
+  parts = and_parts (ltb 0 (length ds)) (list_all (λ d. ltb (digit_value d) base) ds) numeral
 
-module _ (base most sum digit next i : ℕ) (ds : List ℕ) (positive : 0 < base) (inside : i < length ds) (is : digit ≡ digit_value (get_or ds i 0))
-    (left : digits_value_after base sum (drop i ds) ≡ digits_value base ds) where
-  goes_on : digits_value_after base (sum * base + digit) (drop (i + 1) ds) ≡ digits_value base ds
-  goes_on = rw is (sym (at_drop_more (digits_value_after base sum) ds i 0 inside) ∙ left)
+  digits : AllDigits base ds
+  digits = digits_all base high ds parts.1
 
-  pub value_more : Some next ≡ at_most most (sum * base + digit) → (digits_value_after base next (drop (i + 1) ds) ≡ digits_value base ds) × (next ≤ most)
-  value_more e = let h = at_most_some most (sum * base + digit) next e in (rw h.0 goes_on, omega (arith, h.0, h.1))
+  pub digits_text : IsUtf8 ds
+  digits_text = IsUtf8-from_ascii ds (digits_ascii base high ds digits)
 
-  pub value_passes : None ≡ at_most most (sum * base + digit) → None ≡ at_most most (digits_value base ds)
-  value_passes e =
-      at_most_above most (digits_value base ds)
-      (omega (arith, at_most_none most (sum * base + digit) e, value_after_ge base (sum * base + digit) (drop (i + 1) ds) positive, goes_on))
+  read : in_base base ds ≡ Some (digits_value base ds)
+  read = rw numeral
 
-pub value_ends : (base most sum i : ℕ) (ds : List ℕ) → length ds ≤ i → digits_value_after base sum (drop i ds) ≡ digits_value base ds → sum ≤ most
-    → Some sum ≡ at_most most (digits_value base ds)
-value_ends base most sum i ds h left small =
-    let e : sum ≡ digits_value base ds = sym (at_drop_all (digits_value_after base sum) ds i h) ∙ left in
-    rw (← e) (at_most_below most sum small)
+  -- no digit is a plus (43)
+  unsigned : without_leading_plus ds ≡ ds
+  unsigned = first ds (ltb-true 0 (length ds) parts.0) digits
+    where
+      first : (bs : List ℕ) → 0 < length bs → AllDigits base bs → without_leading_plus bs ≡ bs
+      first [] h k = absurd (omega arith)
+      first (b ∷ bs) h k = elim (cases_Bool (eqb b 43)) [
+        | inl e ↦ absurd (omega (arith, k.0, ap digit_value (eqb-true b 43 e)))
+        | inr e ↦ rw e
+      ]
 
--- the step of the sum
-pub sum_fits : (base most sum digit : ℕ) → 0 < base → digit ≤ most → sum ≤ (most - digit) / base → sum * base + digit ≤ most
-sum_fits base most sum digit positive small h =
-    let k : sum * base ≤ most - digit = (le-div_iff_mul-le positive).0 h in omega arith
+  module _ (most : ℕ) (text : List ℕ) (same : text ≡ ds) where
+    value_is : digits_value base (without_leading_plus text) ≡ digits_value base ds
+    value_is = ap (λ bs. digits_value base (without_leading_plus bs)) same ∙ ap (digits_value base) unsigned
 
-pub sum_high : (base most sum digit : ℕ) → 0 < base → digit ≤ most → (most - digit) / base < sum → most < sum * base + digit
-sum_high base most sum digit positive small h =
-    let k : most - digit < sum * base = (div-lt_iff_lt-mul positive).0 h in omega arith
+    pub read_fits : (n : ℕ) → n ≡ digits_value base (without_leading_plus text) → n ≤ most → Ok n ≡ up_to most (in_base base ds)
+    read_fits n e h = rw (read, ← value_is, ← e, le-leb n most h)
 
--- the marks of a hexadecimal number
-pub short_unmarked : (word : List ℕ) → length word < 2 → false ≡ is_marked word
-short_unmarked word h = sym (and_right (eqb (get_or word 0 0) 48) _ (rw (get_or_past word 1 0 (omega arith))))
+    passes : most < digits_value base ds → Err TooLarge ≡ up_to most (in_base base ds)
+    passes h = rw (read, lt-leb (digits_value base ds) most h)
+
+    pub read_passes : (n : ℕ) → n ≡ digits_value base (without_leading_plus text) → most < n → Err TooLarge ≡ up_to most (in_base base ds)
+    read_passes n e h = passes (omega (arith, e, value_is))
+
+    pub read_fails : most < 2 ^ 64 → (IsNumeral base (without_leading_plus text) × (digits_value base (without_leading_plus text) < 2 ^ 64) → ⊥)
+        → Err TooLarge ≡ up_to most (in_base base ds)
+    read_fails h none =
+        elim (cases_lt (digits_value base ds) (2 ^ 64)) [
+          | inl l ↦
+              let is : IsNumeral base (without_leading_plus text) = rw (same, unsigned) (ltb-true 0 (length ds) parts.0, digits) in
+              absurd (none (is, omega (arith, value_is)))
+          | inr l ↦ passes (omega arith)
+        ]
+
+-- the marks of a hexadecimal number, '0' (48) and 'x' (120)
+pub mark_is : (word : List ℕ) → pointwise eqb (take 2 word) (48 ∷ 120 ∷ []) ≡ is_marked word
+mark_is [] = refl
+mark_is (a ∷ []) = elim (cases_Bool (eqb a 48)) [ inl e ↦ rw e | inr e ↦ rw e ]
+mark_is (a ∷ b ∷ bs) = elim (cases_Bool (eqb a 48)) [ inl e ↦ rw e (elim (cases_Bool (eqb b 120)) [ inl f ↦ rw f | inr f ↦ rw f ]) | inr e ↦ rw e ]
 
 pub marked_number : (word : List ℕ) (most : ℕ) (r : Result ℕ NumberFault) → is_marked word ≡ true
-    → r ≡ up_to most (in_base 16 (take (length word - 2) (drop 2 word))) → r ≡ up_to most (number_of word)
+    → r ≡ up_to most (in_base 16 (drop 2 word)) → r ≡ up_to most (number_of word)
 unfolding number_of
-marked_number word most r m e =
-    e ∙ ap (λ ds. up_to most (in_base 16 ds)) (take_rest word 2) ∙ ap (up_to most) (sym (cond-true (is_marked word) (in_base 16 (drop 2 word)) (in_base 10 word) m))
+marked_number word most r m e = e ∙ ap (up_to most) (sym (cond-true (is_marked word) (in_base 16 (drop 2 word)) (in_base 10 word) m))
 
 pub plain_number : (word : List ℕ) (most : ℕ) (r : Result ℕ NumberFault) → is_marked word ≡ false → r ≡ up_to most (in_base 10 word)
     → r ≡ up_to most (number_of word)

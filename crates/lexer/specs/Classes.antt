@@ -1,8 +1,7 @@
--- Kinds of bytes: is_blank, in_word, in_name, belongs, every, one_or_more.
-use Rattle.std.specs.Prelude.{ℕ, Bool, true, not, ◌&&◌, ◌||◌, List, [], ◌∷◌, length, ◌==◌, nat_lt}
+-- Kinds of bytes: is_blank, in_word, in_name, one_or_more.
+use Rattle.std.specs.Prelude.{ℕ, Bool, not, ◌&&◌, ◌||◌, List, length, ◌==◌, nat_lt}
 use Rattle.std.specs.Char.{digit_value}
-use Rattle.lexer.specs.declared.classes.Class.{Class}
-use Rattle.lexer.specs.declared.classes.Class.TheVariants.{Line, Blank, Word, Name, Digit, Piece}
+use Rattle.std.specs.List.{list_all}
 
 -- space, tab and carriage return
 abbrev pub is_blank : ℕ → Bool
@@ -16,18 +15,5 @@ in_word b = not (is_blank b || b == 35)
 abbrev pub in_name : ℕ → Bool
 in_name b = nat_lt (digit_value b) 36 || b == 45
 
-abbrev pub belongs : Class → ℕ → Bool
-belongs Line b = not (b == 10)
-belongs Blank b = is_blank b
-belongs Word b = in_word b
-belongs Name b = in_name b
-belongs (Digit base) b = nat_lt (digit_value b) base
-belongs Piece b = not (b == 44)
-
--- each byte passes
-unfoldable pub every : (ℕ → Bool) → List ℕ → Bool
-every p [] = true
-every p (b ∷ bs) = p b && every p bs
-
 abbrev pub one_or_more : (ℕ → Bool) → List ℕ → Bool
-one_or_more p bs = nat_lt 0 (length bs) && every p bs
+one_or_more p bs = nat_lt 0 (length bs) && list_all p bs

@@ -1,10 +1,15 @@
--- Numbers: number_of, up_to.
-use Rattle.std.specs.Prelude.{ℕ, Bool, cond, ◌&&◌, List, drop, Some, None, Ok, Err, Option, Result, ◌==◌, nat_le, nat_lt, slice_index}
+-- Numbers: number_of, up_to, fault_words.
+use Rattle.std.specs.Prelude.{ℕ, Bool, cond, ◌&&◌, List, drop, Some, None, Ok, Err, codes, Option, Result, ◌==◌, nat_le, nat_lt, slice_index}
 use Rattle.std.specs.Str.Parse.{digits_value}
 use Rattle.std.specs.Char.{digit_value}
 use Rattle.lexer.specs.Classes.{one_or_more}
 use Rattle.lexer.specs.declared.numbers.NumberFault.{NumberFault}
 use Rattle.lexer.specs.declared.numbers.NumberFault.TheVariants.{NotANumber, TooLarge}
+
+-- the fault in plain words
+abbrev pub fault_words : NumberFault → List ℕ
+fault_words NotANumber = codes "a word is not a number"
+fault_words TooLarge = codes "a number is too large"
 
 -- the number that one or more digits of a base write, of any size
 abbrev pub in_base : ℕ → List ℕ → Option ℕ
@@ -17,9 +22,6 @@ is_marked word = slice_index word 0 == 48 && slice_index word 1 == 120
 -- hexadecimal digits after 0x, or decimal digits
 unfoldable pub number_of : List ℕ → Option ℕ
 number_of word = cond (is_marked word) (in_base 16 (drop 2 word)) (in_base 10 word)
-
-abbrev pub at_most : ℕ → ℕ → Option ℕ
-at_most most n = cond (nat_le n most) (Some n) None
 
 -- a number of at most `most`, or what is wrong with it
 abbrev pub up_to : ℕ → Option ℕ → Result ℕ NumberFault

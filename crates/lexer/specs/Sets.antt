@@ -1,6 +1,6 @@
 -- Sets of values below 64: has_value, with_value, pieces, gather, set_of, Members.
 use Rattle.std.specs.Prelude.{◌≡◌, ℕ, ◌/◌, ◌%◌, ◌^◌, Bool, cond, ◌&&◌, ◌⊎◌, List, [], ◌∷◌, length, Some, Ok, Err, Decides, Result, ◌==◌, bit_or, slice_index}
-use Rattle.lexer.specs.Lines.{onto}
+use Rattle.std.specs.List.{slice_split}
 use Rattle.lexer.specs.Numbers.{number_of, up_to}
 use Rattle.lexer.specs.declared.numbers.NumberFault.{NumberFault}
 
@@ -13,9 +13,8 @@ abbrev pub with_value : ℕ → ℕ → ℕ
 with_value found v = bit_or found (2 ^ v)
 
 -- what stands between commas (44)
-unfoldable pub pieces : List ℕ → List (List ℕ)
-pieces [] = [] ∷ []
-pieces (b ∷ bs) = cond (b == 44) ([] ∷ pieces bs) (onto b (pieces bs))
+abbrev pub pieces : List ℕ → List (List ℕ)
+pieces word = slice_split (λ b. b == 44) word
 
 -- the numbers of the pieces, put into a set; or what is wrong with the first piece that is no number of at most 63
 unfoldable pub gather : ℕ → List (List ℕ) → Result ℕ NumberFault

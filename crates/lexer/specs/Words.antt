@@ -1,8 +1,7 @@
 -- The words of a line: words_of, IsWord.
 use Rattle.std.specs.Prelude.{ℕ, ◌<◌, Bool, false, cond, ◌≢◌, List, [], ◌∷◌, length, ◌==◌}
-use Rattle.std.specs.List.{AllByRecursion}
+use Rattle.std.specs.List.{AllByRecursion, onto_first}
 use Rattle.lexer.specs.Classes.{in_word}
-use Rattle.lexer.specs.Lines.{onto}
 
 abbrev pub begins_word : List ℕ → Bool
 begins_word [] = false
@@ -13,7 +12,7 @@ begins_word (b ∷ bs) = in_word b
 unfoldable pub words_of : List ℕ → List (List ℕ)
 words_of [] = []
 words_of (b ∷ bs) =
-    cond (in_word b) (cond (begins_word bs) (onto b (words_of bs)) ((b ∷ []) ∷ words_of bs)) (cond (b == 35) [] (words_of bs))
+    cond (in_word b) (cond (begins_word bs) (onto_first b (words_of bs)) ((b ∷ []) ∷ words_of bs)) (cond (b == 35) [] (words_of bs))
 
 -- not empty, and without space, tab, carriage return and '#'
 abbrev pub IsWord : List ℕ → Type 0

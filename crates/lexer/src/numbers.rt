@@ -1,9 +1,12 @@
 //! Numbers: decimal digits, or `0x` and hexadecimal digits.
-ghost use Rattle.std.specs.Prelude.{◌≡◌, ◌+◌, ◌*◌, ◌<◌, ◌≤◌, true, length};
-ghost use Rattle.std.specs.Str.Parse.{digits_value};
-ghost use Rattle.lexer.specs.Numbers.{at_most, in_base, is_marked, number_of, up_to};
+ghost use Rattle.std.specs.Prelude.{◌≡◌, ◌≤◌, Some, nat_lt};
+ghost use Rattle.std.specs.Char.{digit_value};
+ghost use Rattle.lexer.specs.Classes.{one_or_more};
+ghost use Rattle.lexer.specs.Numbers.{fault_words, in_base, number_of, up_to};
 
-use crate::classes::{Class, digit_value, only};
+use std::error::Error;
+use std::fmt;
+use std::str::from_utf8;
 
 /// Why a word is not a number that the caller can take.
 #[derive(Clone, Copy, PartialEq, Eq, Debug)]
@@ -12,63 +15,53 @@ pub enum NumberFault {
     TooLarge,
 }
 
-/// `sum * base + digit`, or none where that is above `most`.
-fn push_digit(sum: u64, base: u64, digit: u64, most: u64) -> Option<u64>
-    requires { 0 < base }
-    ensures { result ≡ at_most most (sum * base + digit) }
-{
-    if digit > most {
-        return None;
+impl fmt::Display for NumberFault {
+    ghost output = { λ f. Some (fault_words f) };
+
+    fn fmt<W: fmt::Write>(&self, f: &mut fmt::Formatter<W>) -> fmt::Result {
+        f.write_str(match self {
+            NumberFault::NotANumber => "a word is not a number",
+            NumberFault::TooLarge => "a number is too large",
+        })
     }
-    if sum > (most - digit) / base {
-        return None;
-    }
-    Some(sum * base + digit)
 }
 
-/// The value of the digits, or none where it is above `most`. It never falls, so the first time that it passes `most` decides.
-fn value_up_to(base: u64, digits: &[u8], most: u64) -> Option<u64>
-    requires { 0 < base }
-    ensures { result ≡ at_most most (digits_value base digits.now) }
+impl Error for NumberFault {}
+
+/// Whether the bytes are one or more digits of the base.
+fn is_numeral(base: u32, digits: &[u8]) -> bool
+    requires least { 2 ≤ base }
+    requires greatest { base ≤ 36 }
+    ensures { result ≡ one_or_more (λ d. nat_lt (digit_value d) base) digits.now }
 {
-    let mut sum = 0;
-    for byte in digits {
-        sum = push_digit(sum, base, digit_value(*byte) as u64, most)?;
-    }
-    Some(sum)
+    !digits.is_empty() && digits.iter().all(|byte| char::from(*byte).is_digit(base))
 }
 
-/// The number that digits of a base write.
-fn number_in(base: u8, digits: &[u8], most: u64) -> Result<u64, NumberFault>
-    requires { 0 < base }
+/// The number that digits of a base write, where it is at most `most`.
+fn number_in(base: u32, digits: &[u8], most: u64) -> Result<u64, NumberFault>
+    requires least { 2 ≤ base }
+    requires greatest { base ≤ 36 }
     ensures { result ≡ up_to most (in_base base digits.now) }
 {
-    if !only(Class::Digit(base), digits) {
+    // The library would read a sign too.
+    if !is_numeral(base, digits) {
         return Err(NumberFault::NotANumber);
     }
-    match value_up_to(base as u64, digits, most) {
-        Some(number) => Ok(number),
-        None => Err(NumberFault::TooLarge),
+    let Ok(text) = from_utf8(digits) else {
+        return Err(NumberFault::NotANumber);
+    };
+    match u64::from_str_radix(text, base) {
+        Ok(number) if number <= most => Ok(number),
+        _ => Err(NumberFault::TooLarge),
     }
-}
-
-/// Whether `0x` stands in front.
-fn is_marked(word: &[u8]) -> bool
-    ensures marked { result ≡ is_marked word.now }
-    ensures long { result ≡ true → 2 ≤ length word.now }
-{
-    if word.len() < 2 {
-        return false;
-    }
-    word[0] == b'0' && word[1] == b'x'
 }
 
 /// The number that the word writes, where it is at most `most`.
 pub fn number(word: &[u8], most: u64) -> Result<u64, NumberFault>
     ensures { result ≡ up_to most (number_of word.now) }
 {
-    if is_marked(word) {
-        return number_in(16, &word[2..], most);
+    match word.strip_prefix(b"0x") {
+        Some(digits) => number_in(16, digits, most),
+        None => number_in(10, word, most),
     }
-    number_in(10, word, most)
 }

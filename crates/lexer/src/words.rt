@@ -2,7 +2,7 @@
 ghost use Rattle.std.specs.Prelude.{◌≡◌, ◌<◌, [], ◌∷◌, length, IfSome, MatchOption};
 ghost use Rattle.lexer.specs.Words.{words_of, IsWord};
 
-use crate::classes::{Class, run};
+use crate::classes::{in_word, is_blank};
 
 /// The first word of the line and what follows it, which is shorter than the line. None where no word is left before the comment or the end.
 pub fn first_word(line: &[u8]) -> Option<(&[u8], &[u8])>
@@ -10,11 +10,14 @@ pub fn first_word(line: &[u8]) -> Option<(&[u8], &[u8])>
     ensures bytes { IfSome result (λ p. IsWord p.0.now) }
     ensures shorter { IfSome result (λ p. length p.1.now < length line.now) }
 {
-    let begin = run(Class::Blank, line);
+    let begin = line.iter().position(|byte| !is_blank(*byte))?;
     let rest = &line[begin..];
-    let end = run(Class::Word, rest);
+    let end = rest
+        .iter()
+        .position(|byte| !in_word(*byte))
+        .unwrap_or(rest.len());
     if end == 0 {
         return None;
     }
-    Some((&rest[..end], &rest[end..]))
+    Some(rest.split_at(end))
 }

@@ -1,33 +1,45 @@
-use Rattle.std.proofs.Common.{◌≡◌, ℕ, true, false, ltb, List, [], ◌∷◌, ◌++◌, length, Ok, vec_items, sym, ap, ◌∙◌, append-nil, arith, length-append, le-ltb, lt-ltb}
+use Rattle.std.proofs.Common.{◌≡◌, ℕ, true, false, ltb, List, [], ◌∷◌, ◌++◌, length, Some, Ok, Err, Result, vec_items, sym, ap, ◌∙◌, append-nil, arith, length-append, le-ltb, lt-ltb}
+use Rattle.std.proofs.lemmas.Result.{err_from_is_err_and}
 use Rattle.lexer.specs.Words.{words_of}
 use Rattle.commands.specs.Values.{kind_at, values_from}
+use Rattle.std.specs.Option.{ok_or}
+use Rattle.commands.specs.declared.faults.Fault.{Fault}
+use Rattle.commands.specs.declared.faults.Fault.TheVariants.{SurplusWord}
+use Rattle.commands.specs.declared.verbs.Kind.{Kind}
 use Rattle.commands.specs.Verbs.{kinds_of}
 use Rattle.commands.proofs.Reading.{behind, behind_push, surplus, faulty, further, missing, whole}
 use Rattle.commands.proofs.arguments.values.Goals as goal
 
-pub returns-in_default-kind_at : goal.returns-in_default-kind_at
-returns-in_default-kind_at c =
+pub returns-in_err-kind : goal.returns-in_err-kind
+returns-in_err-kind c =
     let items = vec_items c.loop-word.values in
     let len : c.len.result ≡ length items = c.len.ensures ∙ c.loop-word.values.ok.0 in
-    c.loop-word.invariant
-    ∙ ap (behind items) (surplus c.args.verb (length items) _ _ _ c.in-Some.ensures.word (c.in_default-kind_at.ensures ∙ ap (kind_at c.args.verb) len))
+    let p = err_from_is_err_and c.from_residual.result c.from_residual.ensures.1 in
+    let e : ◌≡◌ {A = Result Kind Fault} (Err c.in_err-kind.field-0.0) (Err SurplusWord) = c.in_err-kind.ensures.value ∙ ap (λ o. ok_or o SurplusWord) c.in_err-kind.ensures.ok_part in
+    let fault : c.in_err-kind.field-0.0 ≡ SurplusWord = cc in
+    rw (p.1, p.2, fault)
+    (c.loop-word.invariant
+    ∙ ap (behind items) (surplus c.args.verb (length items) _ _ _ c.in-Some.ensures.word (sym c.in_err-kind.ensures.ok_part ∙ c.kind_at.ensures ∙ ap (kind_at c.args.verb) len)))
 
-pub returns-in-Err : goal.returns-in-Err
-returns-in-Err c =
+pub returns-in_err-value : goal.returns-in_err-value
+returns-in_err-value c =
     let items = vec_items c.loop-word.values in
     let len : c.len.result ≡ length items = c.len.ensures ∙ c.loop-word.values.ok.0 in
-    c.loop-word.invariant
-    ∙ ap (behind items) (faulty c.args.verb (length items) _ _ _ _ _ c.in-Some.ensures.word (c.in-Some-kind_at.ensures ∙ ap (kind_at c.args.verb) len) c.in-Err.ensures)
+    let kind : Some c.in_ok-kind.kind ≡ kind_at c.args.verb (length items) = sym c.in_ok-kind.ensures.ok_part ∙ c.kind_at.ensures ∙ ap (kind_at c.args.verb) len in
+    let p = err_from_is_err_and c.from_residual-in_err-value.result c.from_residual-in_err-value.ensures.1 in
+    rw (p.1, p.2)
+    (c.loop-word.invariant ∙ ap (behind items) (faulty c.args.verb (length items) _ _ _ _ _ c.in-Some.ensures.word kind c.in_err-value.ensures))
 
 pub loop-word-preserved : goal.loop-word-preserved
 loop-word-preserved c =
     let items = vec_items c.loop-word.values in
     let len : c.len.result ≡ length items = c.len.ensures ∙ c.loop-word.values.ok.0 in
-    let n = c.in-Ok.number in
+    let kind : Some c.in_ok-kind.kind ≡ kind_at c.args.verb (length items) = sym c.in_ok-kind.ensures.ok_part ∙ c.kind_at.ensures ∙ ap (kind_at c.args.verb) len in
+    let n = c.in_ok-value.field-0 in
     let rest = words_of c.in-Some.after.now in
-    let more : items ++ (n ∷ []) ≡ vec_items c.push.new.self = sym c.in_ok-push-in-Ok.ensures.items in
+    let more : items ++ (n ∷ []) ≡ vec_items c.push.new.self = sym c.in_ok-push.ensures.items in
     c.loop-word.invariant
-    ∙ ap (behind items) (further c.args.verb (length items) _ _ _ _ n c.in-Some.ensures.word (c.in-Some-kind_at.ensures ∙ ap (kind_at c.args.verb) len) c.in-Ok.ensures)
+    ∙ ap (behind items) (further c.args.verb (length items) _ _ _ _ n c.in-Some.ensures.word kind c.in_ok-value.ensures)
     ∙ behind_push items n _
     ∙ ap (λ (k : ℕ). behind (items ++ (n ∷ [])) (values_from c.args.verb k rest)) (sym (length-append items (n ∷ [])))
     ∙ ap (λ (l : List ℕ). behind l (values_from c.args.verb (length l) rest)) more
