@@ -5,6 +5,7 @@ use crate::outcome::Outcome;
 use lattice::{Ladder, Refusal, Scheme};
 use policy::{Policy, Vocabulary};
 use std::alloc::{AllocError, Global};
+use std::iter;
 
 const ALLOW: u32 = 0x1000_0000;
 
@@ -65,9 +66,7 @@ fn nested(heap: Global, depth: usize) -> Result<Vec<u32>, AllocError> {
         }
         words.push(if level % 2 == 0 { ALLOW } else { DENY })?;
     }
-    for _ in 0..depth {
-        words.push(END)?;
-    }
+    words.extend(iter::repeat_n(END, depth))?;
     Ok(words)
 }
 
