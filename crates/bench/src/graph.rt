@@ -6,8 +6,8 @@ pub const NODES: usize = 4096;
 
 pub const FLOWS: usize = 16384;
 
-// Besides the step that is there from the start.
-const STEPS: usize = 31;
+/// The steps that are taken, besides the one that is there from the start.
+pub const STEPS: usize = 31;
 
 pub const SIZES: Sizes = Sizes {
     store: 2,
@@ -16,90 +16,64 @@ pub const SIZES: Sizes = Sizes {
     types: 64,
 };
 
-/// What was drawn.
-#[derive(Clone, Copy)]
-pub struct Counts {
-    pub nodes: usize,
-    pub flows: usize,
-    pub steps: usize,
+// Numbers below `2 ^ 53`, from a state that shifts and exclusive ors stir.
+#[derive(Drop)]
+struct Random {
+    state: u64,
 }
 
-// A number below `2 ^ 53`, from a state that shifts and exclusive ors stir.
-fn next_random(state: &mut u64) -> u64 {
-    let mut x = *state;
-    x ^= x << 13;
-    x ^= x >> 7;
-    x ^= x << 17;
-    *state = x;
-    x >> 11
+impl Random {
+    fn next(&mut self) -> u64 {
+        let mut x = self.state;
+        x ^= x << 13;
+        x ^= x >> 7;
+        x ^= x << 17;
+        self.state = x;
+        x >> 11
+    }
 }
 
 // A node in 16 has a mark, and one in 8 is verified.
-fn enter_nodes(inventory: &mut Inventory, state: &mut u64) -> Result<usize, Refusal> {
-    let mut count = 0;
-    for _ in 0..NODES {
-        let node = inventory.enter(0, 0, 0)?;
-        let random = next_random(state);
-        if random % 16 == 0 {
-            inventory.mark(node, (random / 16 % 63) as u8 + 1)?;
-        }
-        inventory.verify(node, random / 1024 % 8 == 0)?;
-        count = node.saturating_add(1);
+fn enter_node(inventory: &mut Inventory, random: &mut Random) -> Result<(), Refusal> {
+    let node = inventory.enter(0, 0, 0)?;
+    let number = random.next();
+    if number % 16 == 0 {
+        inventory.mark(node, (number / 16 % 63) as u8 + 1)?;
     }
-    Ok(count)
+    inventory.verify(node, number / 1024 % 8 == 0)
 }
 
 // A step that makes any value of any value, and at times none.
-fn random_row(state: &mut u64) -> [u8; 64] {
+fn take_step(inventory: &mut Inventory, random: &mut Random) -> Result<(), Refusal> {
     let mut row = [0; 64];
-    for value in 1..64usize {
-        row[value] = (next_random(state) % 64) as u8;
+    for entry in row.iter_mut().skip(1) {
+        *entry = (random.next() % 64) as u8;
     }
-    row
-}
-
-fn take_steps(inventory: &mut Inventory, state: &mut u64) -> Result<usize, Refusal> {
-    let mut count = 0;
-    for _ in 0..STEPS {
-        let step = inventory.step(&random_row(state))?;
-        count = step.saturating_add(1);
-    }
-    Ok(count)
+    inventory.step(&row)?;
+    Ok(())
 }
 
 // A flow between any two nodes by any step; whether it was drawn, since it may stand already.
-fn draw_flow(inventory: &mut Inventory, state: &mut u64) -> bool {
-    let from = next_random(state) % 4096;
-    let to = next_random(state) % 4096;
-    let step = next_random(state) % 32;
+fn draw_flow(inventory: &mut Inventory, random: &mut Random) -> bool {
+    let from = random.next() % 4096;
+    let to = random.next() % 4096;
+    let step = random.next() % 32;
     inventory
         .draw(from as usize, to as usize, step as usize)
         .is_ok()
 }
 
-// Some more are tried than are wanted: of flows that stand already there are few.
-fn draw_flows(inventory: &mut Inventory, state: &mut u64) -> usize {
-    let mut count = 0usize;
-    for _ in 0..2 * FLOWS {
-        if count >= FLOWS {
-            break;
-        }
-        if draw_flow(inventory, state) {
-            count = count.saturating_add(1);
-        }
-    }
-    count
-}
-
-/// Draws the graph.
-pub fn draw(inventory: &mut Inventory) -> Result<Counts, Refusal> {
-    let mut state = 88172645463325252u64;
-    let nodes = enter_nodes(inventory, &mut state)?;
-    let steps = take_steps(inventory, &mut state)?;
-    let flows = draw_flows(inventory, &mut state);
-    Ok(Counts {
-        nodes,
-        flows,
-        steps,
-    })
+/// Draws the graph, and gives how many flows it has. Some more are tried than are wanted: of flows that stand already there
+/// are few.
+pub fn draw(inventory: &mut Inventory) -> Result<usize, Refusal> {
+    let mut random = Random {
+        state: 88172645463325252,
+    };
+    (0..NODES).try_for_each(|_| enter_node(inventory, &mut random))?;
+    (0..STEPS).try_for_each(|_| take_step(inventory, &mut random))?;
+    let flows = (0..2 * FLOWS)
+        .filter(|_| draw_flow(inventory, &mut random))
+        .take(FLOWS)
+        .count();
+    Ok(flows)
 }

@@ -20,11 +20,22 @@ const POLICY: [u32; 8] = [
 ];
 
 /// How the nodes were judged.
-#[derive(Clone, Copy)]
+#[derive(Clone, Copy, Default)]
 pub struct Tally {
     pub passed: usize,
     pub refused: usize,
     pub evidence: u32,
+}
+
+impl Tally {
+    fn count(&mut self, verdict: Verdict) {
+        if verdict.passed {
+            self.passed = self.passed.saturating_add(1);
+        } else {
+            self.refused = self.refused.saturating_add(1);
+            self.evidence = self.evidence.saturating_add(verdict.evidence.count_ones());
+        }
+    }
 }
 
 fn kinds() -> Result<Kinds, Refusal> {
@@ -39,34 +50,14 @@ fn kinds() -> Result<Kinds, Refusal> {
     })
 }
 
-fn add(tally: Tally, verdict: Verdict) -> Tally {
-    if verdict.passed {
-        return Tally {
-            passed: tally.passed.saturating_add(1),
-            ..tally
-        };
-    }
-    let values = verdict.evidence.count_ones();
-    Tally {
-        passed: tally.passed,
-        refused: tally.refused.saturating_add(1),
-        evidence: tally.evidence.saturating_add(values),
-    }
-}
-
 /// Judges every node.
 pub fn judge_all(inventory: &Inventory) -> Result<Tally, Refusal> {
     let scheme = kinds()?;
     let mut policy = Policy::new();
     policy.read(&POLICY, &scheme)?;
-    let mut tally = Tally {
-        passed: 0,
-        refused: 0,
-        evidence: 0,
-    };
+    let mut tally = Tally::default();
     for node in 0..NODES {
-        let verdict = inventory.judge(node, &scheme, &policy)?;
-        tally = add(tally, verdict);
+        tally.count(inventory.judge(node, &scheme, &policy)?);
     }
     Ok(tally)
 }

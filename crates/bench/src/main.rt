@@ -9,49 +9,31 @@ use inventory::{FlowRecord, Inventory, NodeRecord};
 use std::io;
 use std::time::Instant;
 
-const NODE: NodeRecord = NodeRecord {
-    store: 0,
-    purpose: 0,
-    role: 0,
-    marks: 0,
-    label: 0,
-    verified: false,
-};
-
-const FLOW: FlowRecord = FlowRecord {
-    from: 0,
-    to: 0,
-    step: 0,
-};
-
-// Draws the graph. Only what is the same at each run goes to the output.
-fn draw(rt: &HostRuntime, inventory: &mut Inventory) -> io::Result<()> {
+// Does the work, and says how long it took. Only what is the same at each run goes to the output.
+fn timed<T: Drop, F: FnOnce() -> T>(rt: &HostRuntime, what: &str, work: F) -> io::Result<T>
+    requires { F.IsAlwaysCallable work }
+{
     let start = Instant::now(rt)?;
-    let drawn = graph::draw(inventory);
+    let outcome = work();
     let us = start.elapsed(rt)?.as_micros();
-    eprintln!(rt; "drawn in {us} us")?;
-    match drawn {
-        Ok(counts) => println!(rt;
-            "{} nodes, {} flows, {} steps, 64 data types",
-            counts.nodes, counts.flows, counts.steps
+    eprintln!(rt; "{what} in {us} us")?;
+    Ok(outcome)
+}
+
+fn draw(rt: &HostRuntime, inventory: &mut Inventory) -> io::Result<()> {
+    match timed(rt, "drawn", || graph::draw(inventory))? {
+        // One step is there from the start.
+        Ok(flows) => println!(rt;
+            "{} nodes, {flows} flows, {} steps, 64 data types",
+            graph::NODES,
+            graph::STEPS + 1
         ),
         Err(refusal) => println!(rt; "not drawn: {refusal}"),
     }
 }
 
-fn settle(rt: &HostRuntime, inventory: &mut Inventory) -> io::Result<()> {
-    let start = Instant::now(rt)?;
-    inventory.settle();
-    let us = start.elapsed(rt)?.as_micros();
-    eprintln!(rt; "settled in {us} us")
-}
-
 fn judge(rt: &HostRuntime, inventory: &Inventory) -> io::Result<()> {
-    let start = Instant::now(rt)?;
-    let judged = judging::judge_all(inventory);
-    let us = start.elapsed(rt)?.as_micros();
-    eprintln!(rt; "judged in {us} us")?;
-    match judged {
+    match timed(rt, "judged", || judging::judge_all(inventory))? {
         Ok(tally) => println!(rt;
             "{} passed, {} refused on {} values of evidence",
             tally.passed, tally.refused, tally.evidence
@@ -69,23 +51,21 @@ fn find_paths(rt: &HostRuntime, inventory: &Inventory) -> io::Result<()> {
     )
 }
 
-// How many nodes hold 32 values or more, and how many values there are in all labels.
-fn held(nodes: &[NodeRecord]) -> (u32, u32) {
-    let mut many = 0u32;
-    let mut all = 0u32;
-    for node in nodes {
-        let count = node.label.count_ones();
-        if count >= 32 {
-            many = many.saturating_add(1);
-        }
-        all = all.saturating_add(count);
-    }
-    (many, all)
+fn show_labels(rt: &HostRuntime, nodes: &[NodeRecord]) -> io::Result<()> {
+    let many = nodes
+        .iter()
+        .filter(|node| node.label.count_ones() >= 32)
+        .count();
+    let all = nodes
+        .iter()
+        .map(|node| node.label.count_ones())
+        .fold(0, u32::saturating_add);
+    println!(rt; "{many} nodes hold 32 values or more, all nodes together {all}")
 }
 
 fn main(rt: HostRuntime) -> io::Result<()> {
-    let mut nodes = vec![in rt.alloc(); NODE; graph::NODES]?;
-    let mut flows = vec![in rt.alloc(); FLOW; graph::FLOWS]?;
+    let mut nodes = vec![in rt.alloc(); NodeRecord::default(); graph::NODES]?;
+    let mut flows = vec![in rt.alloc(); FlowRecord::default(); graph::FLOWS]?;
     let mut workspace = vec![in rt.alloc(); 0u32; 128 * graph::NODES]?;
     let mut inventory = Inventory::new(
         graph::SIZES,
@@ -95,11 +75,10 @@ fn main(rt: HostRuntime) -> io::Result<()> {
     );
     draw(&rt, &mut inventory)?;
     // The first time the memory is touched, the second is the usual case.
-    settle(&rt, &mut inventory)?;
-    settle(&rt, &mut inventory)?;
+    timed(&rt, "settled", || inventory.settle())?;
+    timed(&rt, "settled", || inventory.settle())?;
     judge(&rt, &inventory)?;
     find_paths(&rt, &inventory)?;
     let lent = inventory.release();
-    let (many, all) = held(lent.nodes);
-    println!(rt; "{many} nodes hold 32 values or more, all nodes together {all}")
+    show_labels(&rt, lent.nodes)
 }

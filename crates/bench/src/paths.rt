@@ -3,18 +3,21 @@ use crate::graph::NODES;
 use inventory::Inventory;
 
 /// The paths that were found: how many, how many flows they have together, and how many the longest has.
-#[derive(Clone, Copy)]
+#[derive(Clone, Copy, Default)]
 pub struct Found {
     pub paths: usize,
     pub flows: usize,
     pub longest: usize,
 }
 
-fn add(found: Found, flows: usize) -> Found {
-    Found {
-        paths: found.paths.saturating_add(1),
-        flows: found.flows.saturating_add(flows),
-        longest: found.longest.max(flows),
+impl Found {
+    // One path more, with so many flows.
+    fn with(self, flows: usize) -> Found {
+        Found {
+            paths: self.paths.saturating_add(1),
+            flows: self.flows.saturating_add(flows),
+            longest: self.longest.max(flows),
+        }
     }
 }
 
@@ -26,24 +29,14 @@ fn path_length(inventory: &Inventory, node: usize, value: u8) -> Option<usize> {
 
 // The paths of all values of one node, added to those before.
 fn find_at(inventory: &Inventory, node: usize, before: Found) -> Found {
-    let mut found = before;
-    for value in 1..64u8 {
-        if let Some(flows) = path_length(inventory, node, value) {
-            found = add(found, flows);
-        }
-    }
-    found
+    (1..64u8)
+        .filter_map(|value| path_length(inventory, node, value))
+        .fold(before, Found::with)
 }
 
 /// Finds every path.
 pub fn find_all(inventory: &Inventory) -> Found {
-    let mut found = Found {
-        paths: 0,
-        flows: 0,
-        longest: 0,
-    };
-    for node in 0..NODES {
-        found = find_at(inventory, node, found);
-    }
-    found
+    (0..NODES).fold(Found::default(), |found, node| {
+        find_at(inventory, node, found)
+    })
 }

@@ -1,29 +1,16 @@
 //! Tables, ladders and pairs at their limits.
+use crate::outcome::Outcome;
 use lattice::{Ladder, Lattice, Refusal, Table};
 
 // Reads the rows into a table of five values, and shows its size before and after.
 fn show_rows(rt: &impl Print, what: &str, rows: &[u64]) -> anyhow::Result<()> {
     let mut table = Table::new();
-    let _ = table.read(&[0b11111, 0b10010, 0b10100, 0b11000, 0b10000]);
+    table.read(&[0b11111, 0b10010, 0b10100, 0b11000, 0b10000])?;
     let before = table.size();
-    match table.read(rows) {
-        Ok(()) => println!(rt;
-            "{what}: taken, size {before} before and {} after",
-            table.size()
-        )?,
-        Err(refusal) => println!(rt;
-            "{what}: {refusal}; size {before} before and {} after",
-            table.size()
-        )?,
-    }
+    let outcome = Outcome(table.read(rows));
+    let after = table.size();
+    println!(rt; "{what}: {outcome} size {before} before and {after} after")?;
     Ok(())
-}
-
-// The ladder of as many levels as there are rows, as far as a row has bits.
-fn fill(rows: &mut [u64]) {
-    for (i, row) in rows.iter_mut().enumerate() {
-        *row = if i < 64 { u64::MAX << i } else { 1 };
-    }
 }
 
 fn show_ladder(rt: &impl Print, levels: usize) -> anyhow::Result<()> {
@@ -48,13 +35,12 @@ fn show_pair(rt: &impl Print, first: usize, second: usize) -> anyhow::Result<()>
     Ok(())
 }
 
-pub fn show(rt: &impl Print) -> anyhow::Result<()> {
-    let mut most = [0u64; 64];
-    fill(&mut most);
-    let mut more = [0u64; 65];
-    fill(&mut more);
-    show_rows(rt, "64 rows", &most)?;
-    show_rows(rt, "65 rows", &more)?;
+pub fn show(rt: &HostRuntime) -> anyhow::Result<()> {
+    // The ladder of 64 levels, and a row more than there can be.
+    let mut rows: Vec<u64> = (0..64).map(|level| u64::MAX << level).collect(rt.alloc())?;
+    show_rows(rt, "64 rows", rows.as_slice())?;
+    rows.push(1)?;
+    show_rows(rt, "65 rows", rows.as_slice())?;
     show_rows(rt, "1 row", &[0b1])?;
     show_rows(rt, "a bit past the count", &[0b11, 0b110])?;
     show_rows(rt, "no bit of its own", &[0b11, 0b00])?;
@@ -66,10 +52,9 @@ pub fn show(rt: &impl Print) -> anyhow::Result<()> {
         "two joins",
         &[0b111111, 0b111010, 0b111100, 0b101000, 0b110000, 0b100000],
     )?;
-    show_ladder(rt, 1)?;
-    show_ladder(rt, 2)?;
-    show_ladder(rt, 64)?;
-    show_ladder(rt, 65)?;
+    for levels in [1, 2, 64, 65] {
+        show_ladder(rt, levels)?;
+    }
     show_pair(rt, 10, 8)?;
     show_pair(rt, 10, 9)
 }

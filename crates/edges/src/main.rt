@@ -5,6 +5,7 @@
 mod calls;
 mod lattices;
 mod memory;
+mod outcome;
 mod words;
 
 fn main(rt: HostRuntime) -> anyhow::Result<()> {

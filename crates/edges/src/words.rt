@@ -1,6 +1,11 @@
 //! Policy words at their limits.
+ghost use Rattle.std.specs.Prelude.{◌<◌};
+
+use crate::outcome::Outcome;
 use lattice::{Ladder, Refusal, Scheme};
 use policy::{Policy, Vocabulary};
+use std::alloc::{AllocError, Global};
+use std::iter;
 
 const ALLOW: u32 = 0x1000_0000;
 
@@ -39,97 +44,70 @@ fn ladders(store: usize, purpose: usize, role: usize, types: usize) -> Result<La
 fn show_words(rt: &impl Print, what: &str, words: &[u32], scheme: &Ladders) -> anyhow::Result<()> {
     let mut policy = Policy::new();
     let before = policy.sizes().types;
-    match policy.read(words, scheme) {
-        Ok(()) => println!(rt;
-            "{what}: taken, for {before} data types before and {} after",
-            policy.sizes().types
-        )?,
-        Err(refusal) => println!(rt;
-            "{what}: {refusal}; for {before} data types before and {} after",
-            policy.sizes().types
-        )?,
-    }
+    let outcome = Outcome(policy.read(words, scheme));
+    let after = policy.sizes().types;
+    println!(rt; "{what}: {outcome} for {before} data types before and {after} after")?;
     Ok(())
 }
 
-fn put(words: &mut [u32], place: usize, word: u32) -> usize {
-    if place < words.len() {
-        words[place] = word;
-    }
-    place.saturating_add(1)
+// The word for a value of any attribute: 63 values each, after the bottom.
+fn value_word(number: u32) -> u32
+    requires { number < 252 }
+{
+    VALUE + number / 63 * 0x0100_0000 + number % 63 + 1
 }
 
-// Every value that there can be, from an attribute and a code on.
-fn put_values(words: &mut [u32], place: usize, most: usize) -> usize {
-    let mut next = place;
-    for i in 0..252usize.min(most) {
-        let attribute = (i / 63) as u32;
-        let code = (i % 63) as u32 + 1;
-        next = put(words, next, VALUE + attribute * 0x0100_0000 + code);
-    }
-    next
-}
-
-// Writes clauses inside one another; the rest stays END.
-fn nest(words: &mut [u32], depth: usize) {
-    let mut next = 0;
-    for level in 0..depth.min(20) {
-        next = put(words, next, if level % 2 == 0 { ALLOW } else { DENY });
-        if level + 1 < depth {
-            next = put(words, next, EXCEPT);
+// Clauses inside one another.
+fn nested(heap: Global, depth: usize) -> Result<Vec<u32>, AllocError> {
+    let mut words = Vec::new(heap);
+    for level in 0..depth {
+        if level > 0 {
+            words.push(EXCEPT)?;
         }
+        words.push(if level % 2 == 0 { ALLOW } else { DENY })?;
     }
+    words.extend(iter::repeat_n(END, depth))?;
+    Ok(words)
 }
 
-// Writes one clause with so many exceptions that have nothing in them.
-fn spread_out(words: &mut [u32], exceptions: usize) {
-    let mut next = put(words, 0, ALLOW);
-    next = put(words, next, EXCEPT);
+// One clause with so many exceptions that have nothing in them.
+fn spread_out(heap: Global, exceptions: usize) -> Result<Vec<u32>, AllocError> {
+    let mut words = vec![in heap; ALLOW, EXCEPT]?;
     for _ in 0..exceptions {
-        next = put(words, next, DENY);
-        next = put(words, next, END);
+        words.extend_from_slice(&[DENY, END])?;
     }
+    words.push(END)?;
+    Ok(words)
 }
 
-// Writes one clause of 4,096 words: 29 values, and 16 exceptions with every value that there can be.
-fn fill(words: &mut [u32]) {
-    let mut next = put(words, 0, ALLOW);
-    next = put_values(words, next, 29);
-    next = put(words, next, EXCEPT);
+// One clause of 4,096 words: 29 values, and 16 exceptions with every value that there can be.
+fn longest(heap: Global) -> Result<Vec<u32>, AllocError> {
+    let mut words = vec![in heap; ALLOW]?;
+    words.extend((0..29).map(value_word))?;
+    words.push(EXCEPT)?;
     for _ in 0..16 {
-        next = put(words, next, DENY);
-        next = put_values(words, next, 252);
-        next = put(words, next, END);
+        words.push(DENY)?;
+        words.extend((0..252).map(value_word))?;
+        words.push(END)?;
     }
+    words.push(END)?;
+    Ok(words)
 }
 
-fn show_depth(rt: &impl Print, scheme: &Ladders) -> anyhow::Result<()> {
-    let mut deep = [END; 47];
-    nest(&mut deep, 16);
-    show_words(rt, "depth 16", &deep, scheme)?;
-    let mut deeper = [END; 50];
-    nest(&mut deeper, 17);
-    show_words(rt, "depth 17", &deeper, scheme)
-}
-
-fn show_count(rt: &impl Print, scheme: &Ladders) -> anyhow::Result<()> {
-    let mut wide = [END; 513];
-    spread_out(&mut wide, 255);
-    show_words(rt, "256 clauses", &wide, scheme)?;
-    let mut wider = [END; 515];
-    spread_out(&mut wider, 256);
-    show_words(rt, "257 clauses", &wider, scheme)
-}
-
-fn show_limits(rt: &impl Print, scheme: &Ladders) -> anyhow::Result<()> {
-    show_depth(rt, scheme)?;
-    show_count(rt, scheme)?;
-    let mut most = [END; 4096];
-    fill(&mut most);
-    show_words(rt, "4,096 words", &most, scheme)?;
-    let mut more = [END; 4097];
-    fill(&mut more);
-    show_words(rt, "4,097 words", &more, scheme)?;
+fn show_limits(rt: &HostRuntime, scheme: &Ladders) -> anyhow::Result<()> {
+    for depth in [16, 17] {
+        let words = nested(rt.alloc(), depth)?;
+        let what = format!(in rt.alloc(); "depth {depth}")?;
+        show_words(rt, what.as_str(), words.as_slice(), scheme)?;
+    }
+    let wide = spread_out(rt.alloc(), 255)?;
+    show_words(rt, "256 clauses", wide.as_slice(), scheme)?;
+    let wider = spread_out(rt.alloc(), 256)?;
+    show_words(rt, "257 clauses", wider.as_slice(), scheme)?;
+    let mut words = longest(rt.alloc())?;
+    show_words(rt, "4,096 words", words.as_slice(), scheme)?;
+    words.push(END)?;
+    show_words(rt, "4,097 words", words.as_slice(), scheme)?;
     show_words(rt, "no words", &[], scheme)
 }
 
@@ -156,12 +134,7 @@ fn show_faults(rt: &impl Print, scheme: &Ladders) -> anyhow::Result<()> {
     )
 }
 
-pub fn show(rt: &impl Print) -> anyhow::Result<()> {
-    if let Ok(scheme) = ladders(64, 64, 64, 64) {
-        show_limits(rt, &scheme)?;
-    }
-    if let Ok(scheme) = ladders(2, 4, 2, 7) {
-        show_faults(rt, &scheme)?;
-    }
-    Ok(())
+pub fn show(rt: &HostRuntime) -> anyhow::Result<()> {
+    show_limits(rt, &ladders(64, 64, 64, 64)?)?;
+    show_faults(rt, &ladders(2, 4, 2, 7)?)
 }

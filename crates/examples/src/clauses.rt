@@ -1,5 +1,5 @@
 //! Clauses: both verdicts, the clause that decides, and the evidence.
-use crate::office::{ADVERTS, TOGETHER, office};
+use crate::office::{ADVERTS, TOGETHER, office, passed, refused};
 use lattice::Refusal;
 use policy::{Label, Policy, Verdict};
 use std::test::Fail;
@@ -15,22 +15,6 @@ fn verdict(words: &[u32], purpose: u64, types: u64) -> Result<Verdict, Refusal> 
         types,
     };
     Ok(policy.judge(&scheme, held.declared(&scheme)))
-}
-
-fn passed(clause: usize) -> Verdict {
-    Verdict {
-        passed: true,
-        clause,
-        evidence: 0,
-    }
-}
-
-fn refused(clause: usize, evidence: u64) -> Verdict {
-    Verdict {
-        passed: false,
-        clause,
-        evidence,
-    }
 }
 
 #[test]

@@ -1,5 +1,5 @@
 //! The inventory: what is numbered, what flows where, what is judged, and why calls are refused.
-use crate::office::{ADVERTS, TOGETHER, office};
+use crate::office::{ADVERTS, ENTER, TOGETHER, office, passed, refused};
 use inventory::{FlowRecord, Inventory, NodeRecord};
 use lattice::{Layer, Reason, Refusal, Sizes};
 use policy::{Policy, Verdict};
@@ -37,10 +37,6 @@ const FLOW: FlowRecord = FlowRecord {
 // Memory for four nodes and four flows.
 fn memory() -> ([NodeRecord; 4], [FlowRecord; 4], [u32; 512]) {
     ([NODE; 4], [FLOW; 4], [7; 512])
-}
-
-fn at(reason: Reason, place: usize) -> Option<Refusal> {
-    Some(Refusal { reason, place })
 }
 
 fn enter_plain(inventory: &mut Inventory, count: usize) -> Result<(), Refusal> {
@@ -94,7 +90,7 @@ fn a_short_piece_is_refused_and_left(rt: HostRuntime) -> Result<(), Fail> {
     let mut piece = [9; 2];
     assert_eq!(rt;
         inventory.path(1, 1, &mut piece).err(),
-        at(Reason::ShortPiece, 0)
+        Some(Reason::ShortPiece.at(0))
     );
     assert_eq!(rt; piece, [9, 9]);
     assert_eq!(rt; inventory.path(2, 1, &mut piece), Ok(2));
@@ -111,7 +107,7 @@ fn a_mark_has_a_path_of_no_flow(rt: HostRuntime) -> Result<(), Fail> {
     assert_eq!(rt; inventory.path(0, 2, &mut []), Ok(0));
     assert_eq!(rt;
         inventory.path(0, 1, &mut []).err(),
-        at(Reason::NotInLabel, 1)
+        Some(Reason::NotInLabel.at(1))
     );
     Ok(())
 }
@@ -126,7 +122,7 @@ fn nothing_flows_into_a_verified_node(rt: HostRuntime) -> Result<(), Fail> {
     inventory.settle();
     assert_eq!(rt;
         inventory.path(1, 1, &mut piece).err(),
-        at(Reason::NotInLabel, 1)
+        Some(Reason::NotInLabel.at(1))
     );
     inventory.verify(2, false)?;
     inventory.settle();
@@ -160,11 +156,11 @@ fn what_is_unmarked_is_gone_everywhere(rt: HostRuntime) -> Result<(), Fail> {
     inventory.settle();
     assert_eq!(rt;
         inventory.path(0, 2, &mut []).err(),
-        at(Reason::NotInLabel, 2)
+        Some(Reason::NotInLabel.at(2))
     );
     assert_eq!(rt;
         inventory.path(1, 1, &mut []).err(),
-        at(Reason::NotInLabel, 1)
+        Some(Reason::NotInLabel.at(1))
     );
     Ok(())
 }
@@ -182,7 +178,7 @@ fn a_step_can_drop_a_value(rt: HostRuntime) -> Result<(), Fail> {
     assert_eq!(rt; inventory.path(1, 4, &mut [0]), Ok(1));
     assert_eq!(rt;
         inventory.path(1, 2, &mut [0]).err(),
-        at(Reason::NotInLabel, 2)
+        Some(Reason::NotInLabel.at(2))
     );
     Ok(())
 }
@@ -228,9 +224,9 @@ fn struck_flows_bring_nothing(rt: HostRuntime) -> Result<(), Fail> {
     inventory.settle();
     assert_eq!(rt;
         inventory.path(1, 2, &mut []).err(),
-        at(Reason::NotInLabel, 2)
+        Some(Reason::NotInLabel.at(2))
     );
-    assert_eq!(rt; inventory.strike(0, 1, 0).err(), at(Reason::NoFlow, 0));
+    assert_eq!(rt; inventory.strike(0, 1, 0).err(), Some(Reason::NoFlow.at(0)));
     Ok(())
 }
 
@@ -286,12 +282,15 @@ fn inventory_refusals_have_a_layer(rt: HostRuntime) {
 fn nodes_that_are_not_there_are_refused(rt: HostRuntime) -> Result<(), Fail> {
     let (mut nodes, mut flows, mut workspace) = memory();
     let mut inventory = Inventory::new(SIZES, &mut nodes, &mut flows, &mut workspace);
-    assert_eq!(rt; inventory.mark(0, 1).err(), at(Reason::NoNode, 0));
+    assert_eq!(rt; inventory.mark(0, 1).err(), Some(Reason::NoNode.at(0)));
     enter_plain(&mut inventory, 2)?;
-    assert_eq!(rt; inventory.mark(2, 1).err(), at(Reason::NoNode, 2));
-    assert_eq!(rt; inventory.unmark(3, 1).err(), at(Reason::NoNode, 3));
-    assert_eq!(rt; inventory.verify(4, true).err(), at(Reason::NoNode, 4));
-    assert_eq!(rt; inventory.path(5, 1, &mut []).err(), at(Reason::NoNode, 5));
+    assert_eq!(rt; inventory.mark(2, 1).err(), Some(Reason::NoNode.at(2)));
+    assert_eq!(rt; inventory.unmark(3, 1).err(), Some(Reason::NoNode.at(3)));
+    assert_eq!(rt; inventory.verify(4, true).err(), Some(Reason::NoNode.at(4)));
+    assert_eq!(rt;
+        inventory.path(5, 1, &mut []).err(),
+        Some(Reason::NoNode.at(5))
+    );
     Ok(())
 }
 
@@ -300,15 +299,15 @@ fn a_flow_from_no_node_is_refused_for_that_end_first(rt: HostRuntime) -> Result<
     let (mut nodes, mut flows, mut workspace) = memory();
     let mut inventory = Inventory::new(SIZES, &mut nodes, &mut flows, &mut workspace);
     enter_plain(&mut inventory, 2)?;
-    assert_eq!(rt; inventory.draw(3, 2, 9).err(), at(Reason::NoNode, 3));
-    assert_eq!(rt; inventory.draw(1, 2, 9).err(), at(Reason::NoNode, 2));
+    assert_eq!(rt; inventory.draw(3, 2, 9).err(), Some(Reason::NoNode.at(3)));
+    assert_eq!(rt; inventory.draw(1, 2, 9).err(), Some(Reason::NoNode.at(2)));
     assert_eq!(rt;
         inventory.strike(65536, 2, 9).err(),
-        at(Reason::NoNode, 65536)
+        Some(Reason::NoNode.at(65536))
     );
     assert_eq!(rt;
         inventory.strike(0, 65537, 9).err(),
-        at(Reason::NoNode, 65537)
+        Some(Reason::NoNode.at(65537))
     );
     Ok(())
 }
@@ -318,8 +317,11 @@ fn steps_that_are_not_there_are_refused(rt: HostRuntime) -> Result<(), Fail> {
     let (mut nodes, mut flows, mut workspace) = memory();
     let mut inventory = Inventory::new(SIZES, &mut nodes, &mut flows, &mut workspace);
     enter_plain(&mut inventory, 2)?;
-    assert_eq!(rt; inventory.draw(0, 1, 1).err(), at(Reason::NoStep, 1));
-    assert_eq!(rt; inventory.strike(0, 1, 256).err(), at(Reason::NoStep, 256));
+    assert_eq!(rt; inventory.draw(0, 1, 1).err(), Some(Reason::NoStep.at(1)));
+    assert_eq!(rt;
+        inventory.strike(0, 1, 256).err(),
+        Some(Reason::NoStep.at(256))
+    );
     let coarsen = inventory.step(&COARSEN)?;
     assert_eq!(rt; inventory.draw(0, 1, coarsen).err(), None);
     Ok(())
@@ -329,7 +331,7 @@ fn steps_that_are_not_there_are_refused(rt: HostRuntime) -> Result<(), Fail> {
 fn declared_sets_have_values_past_the_bottom(rt: HostRuntime) {
     let (mut nodes, mut flows, mut workspace) = memory();
     let mut inventory = Inventory::new(SIZES, &mut nodes, &mut flows, &mut workspace);
-    let bad = at(Reason::BadArgument, 0);
+    let bad = Some(Reason::BadArgument.at(0));
     assert_eq!(rt; inventory.enter(0b1, 0, 0).err(), bad);
     assert_eq!(rt; inventory.enter(0b100, 0, 0).err(), bad);
     assert_eq!(rt; inventory.enter(0, 0b10000, 0).err(), bad);
@@ -342,7 +344,7 @@ fn declared_sets_have_values_past_the_bottom(rt: HostRuntime) {
 fn rows_have_a_value_for_each_value_and_keep_the_bottom(rt: HostRuntime) {
     let (mut nodes, mut flows, mut workspace) = memory();
     let mut inventory = Inventory::new(SIZES, &mut nodes, &mut flows, &mut workspace);
-    let bad = at(Reason::BadArgument, 0);
+    let bad = Some(Reason::BadArgument.at(0));
     assert_eq!(rt; inventory.step(&[]).err(), bad);
     assert_eq!(rt; inventory.step(&[0, 1, 1, 3, 3, 5]).err(), bad);
     assert_eq!(rt; inventory.step(&[0, 1, 1, 3, 3, 5, 5, 0]).err(), bad);
@@ -355,7 +357,7 @@ fn rows_have_a_value_for_each_value_and_keep_the_bottom(rt: HostRuntime) {
 fn marks_and_paths_are_of_values_past_the_bottom(rt: HostRuntime) -> Result<(), Fail> {
     let (mut nodes, mut flows, mut workspace) = memory();
     let mut inventory = Inventory::new(SIZES, &mut nodes, &mut flows, &mut workspace);
-    let bad = at(Reason::BadArgument, 0);
+    let bad = Some(Reason::BadArgument.at(0));
     enter_plain(&mut inventory, 1)?;
     assert_eq!(rt; inventory.mark(0, 0).err(), bad);
     assert_eq!(rt; inventory.mark(0, 7).err(), bad);
@@ -371,12 +373,18 @@ fn a_flow_stands_once(rt: HostRuntime) -> Result<(), Fail> {
     let (mut nodes, mut flows, mut workspace) = memory();
     let mut inventory = Inventory::new(SIZES, &mut nodes, &mut flows, &mut workspace);
     round_trip(&mut inventory)?;
-    assert_eq!(rt; inventory.draw(0, 1, 0).err(), at(Reason::FlowStands, 0));
-    assert_eq!(rt; inventory.strike(1, 0, 0).err(), at(Reason::NoFlow, 0));
-    assert_eq!(rt; inventory.strike(0, 1, 1).err(), at(Reason::NoFlow, 0));
+    assert_eq!(rt;
+        inventory.draw(0, 1, 0).err(),
+        Some(Reason::FlowStands.at(0))
+    );
+    assert_eq!(rt; inventory.strike(1, 0, 0).err(), Some(Reason::NoFlow.at(0)));
+    assert_eq!(rt; inventory.strike(0, 1, 1).err(), Some(Reason::NoFlow.at(0)));
     assert_eq!(rt; inventory.draw(0, 1, 1).err(), None);
     // There is no room any more, but that is asked after the flow.
-    assert_eq!(rt; inventory.draw(0, 1, 0).err(), at(Reason::FlowStands, 0));
+    assert_eq!(rt;
+        inventory.draw(0, 1, 0).err(),
+        Some(Reason::FlowStands.at(0))
+    );
     Ok(())
 }
 
@@ -385,8 +393,11 @@ fn nodes_have_as_much_room_as_was_lent(rt: HostRuntime) -> Result<(), Fail> {
     let (mut nodes, mut flows, mut workspace) = memory();
     let mut inventory = Inventory::new(SIZES, &mut nodes, &mut flows, &mut workspace);
     enter_plain(&mut inventory, 4)?;
-    assert_eq!(rt; inventory.enter(0, 0, 0).err(), at(Reason::NoRoom, 0));
-    assert_eq!(rt; inventory.enter(1, 0, 0).err(), at(Reason::BadArgument, 0));
+    assert_eq!(rt; inventory.enter(0, 0, 0).err(), Some(Reason::NoRoom.at(0)));
+    assert_eq!(rt;
+        inventory.enter(1, 0, 0).err(),
+        Some(Reason::BadArgument.at(0))
+    );
     assert_eq!(rt; inventory.mark(3, 1).err(), None);
     Ok(())
 }
@@ -397,7 +408,7 @@ fn flows_have_as_much_room_as_was_lent(rt: HostRuntime) -> Result<(), Fail> {
     let mut inventory = Inventory::new(SIZES, &mut nodes, &mut flows, &mut workspace);
     round_trip(&mut inventory)?;
     inventory.draw(2, 2, 0)?;
-    assert_eq!(rt; inventory.draw(1, 1, 0).err(), at(Reason::NoRoom, 0));
+    assert_eq!(rt; inventory.draw(1, 1, 0).err(), Some(Reason::NoRoom.at(0)));
     inventory.strike(0, 1, 0)?;
     assert_eq!(rt; inventory.draw(1, 1, 0).err(), None);
     Ok(())
@@ -411,8 +422,8 @@ fn steps_are_32_at_most(rt: HostRuntime) -> Result<(), Fail> {
         let _ = inventory.step(&COARSEN)?;
     }
     assert_eq!(rt; inventory.step(&COARSEN), Ok(31));
-    assert_eq!(rt; inventory.step(&COARSEN).err(), at(Reason::NoRoom, 0));
-    assert_eq!(rt; inventory.step(&[0]).err(), at(Reason::BadArgument, 0));
+    assert_eq!(rt; inventory.step(&COARSEN).err(), Some(Reason::NoRoom.at(0)));
+    assert_eq!(rt; inventory.step(&[0]).err(), Some(Reason::BadArgument.at(0)));
     Ok(())
 }
 
@@ -430,7 +441,7 @@ fn sizes_below_2_become_2(rt: HostRuntime) {
     assert!(rt; inventory.enter(0b100, 0, 0).is_err());
     assert!(rt; inventory.enter(0, 0b100, 0).is_err());
     assert_eq!(rt; inventory.step(&[0, 1]), Ok(1));
-    assert_eq!(rt; inventory.mark(0, 2).err(), at(Reason::BadArgument, 0));
+    assert_eq!(rt; inventory.mark(0, 2).err(), Some(Reason::BadArgument.at(0)));
     assert_eq!(rt; inventory.mark(0, 1).err(), None);
 }
 
@@ -446,8 +457,14 @@ fn sizes_past_64_become_64(rt: HostRuntime) {
     let mut inventory = Inventory::new(sizes, &mut nodes, &mut flows, &mut workspace);
     assert_eq!(rt; inventory.enter(u64::MAX - 1, u64::MAX - 1, 1 << 63), Ok(0));
     assert_eq!(rt; inventory.mark(0, 63).err(), None);
-    assert_eq!(rt; inventory.mark(0, 64).err(), at(Reason::BadArgument, 0));
-    assert_eq!(rt; inventory.step(&[0; 65]).err(), at(Reason::BadArgument, 0));
+    assert_eq!(rt;
+        inventory.mark(0, 64).err(),
+        Some(Reason::BadArgument.at(0))
+    );
+    assert_eq!(rt;
+        inventory.step(&[0; 65]).err(),
+        Some(Reason::BadArgument.at(0))
+    );
     assert_eq!(rt; inventory.step(&[0; 64]), Ok(1));
 }
 
@@ -455,13 +472,9 @@ fn sizes_past_64_become_64(rt: HostRuntime) {
 fn room_with(workspace: &mut [u32]) -> usize {
     let mut nodes = [NODE; 3];
     let mut inventory = Inventory::new(SIZES, &mut nodes, &mut [], workspace);
-    let mut count = 0;
-    for number in 0..3usize {
-        if inventory.enter(0, 0, 0) == Ok(number) {
-            count = number + 1;
-        }
-    }
-    count
+    (0..3)
+        .take_while(|number| inventory.enter(0, 0, 0) == Ok(*number))
+        .count()
 }
 
 #[test]
@@ -482,7 +495,7 @@ fn what_was_changed_has_to_be_settled(rt: HostRuntime) -> Result<(), Fail> {
     let mut policy = Policy::new();
     policy.read(&ADVERTS, &scheme)?;
     round_trip(&mut inventory)?;
-    let unsettled = at(Reason::Unsettled, 0);
+    let unsettled = Some(Reason::Unsettled.at(0));
     assert_eq!(rt; inventory.judge(0, &scheme, &policy).err(), unsettled);
     assert_eq!(rt; inventory.path(0, 2, &mut []).err(), unsettled);
     inventory.settle();
@@ -495,7 +508,7 @@ fn what_was_changed_has_to_be_settled(rt: HostRuntime) -> Result<(), Fail> {
 fn every_change_unsettles(rt: HostRuntime) -> Result<(), Fail> {
     let (mut nodes, mut flows, mut workspace) = memory();
     let mut inventory = Inventory::new(SIZES, &mut nodes, &mut flows, &mut workspace);
-    let unsettled = at(Reason::Unsettled, 0);
+    let unsettled = Some(Reason::Unsettled.at(0));
     round_trip(&mut inventory)?;
     inventory.settle();
     inventory.unmark(1, 1)?;
@@ -532,16 +545,16 @@ fn scheme_and_policy_have_the_sizes_of_the_inventory(rt: HostRuntime) -> Result<
     enter_plain(&mut inventory, 1)?;
     assert_eq!(rt;
         inventory.judge(0, &scheme, &Policy::new()).err(),
-        at(Reason::Unsettled, 0)
+        Some(Reason::Unsettled.at(0))
     );
     inventory.settle();
     assert_eq!(rt;
         inventory.judge(0, &scheme, &Policy::new()).err(),
-        at(Reason::SizesDiffer, 0)
+        Some(Reason::SizesDiffer.at(0))
     );
     assert_eq!(rt;
         inventory.judge(1, &scheme, &Policy::new()).err(),
-        at(Reason::NoNode, 1)
+        Some(Reason::NoNode.at(1))
     );
     Ok(())
 }
@@ -558,25 +571,9 @@ fn an_inventory_of_other_sizes_is_not_judged(rt: HostRuntime) -> Result<(), Fail
     inventory.settle();
     assert_eq!(rt;
         inventory.judge(0, &scheme, &policy).err(),
-        at(Reason::SizesDiffer, 0)
+        Some(Reason::SizesDiffer.at(0))
     );
     Ok(())
-}
-
-fn passed(clause: usize) -> Verdict {
-    Verdict {
-        passed: true,
-        clause,
-        evidence: 0,
-    }
-}
-
-fn refused(clause: usize, evidence: u64) -> Verdict {
-    Verdict {
-        passed: false,
-        clause,
-        evidence,
-    }
 }
 
 // The verdict on a job with a purpose, to which the marks of another node flow by a step.
@@ -669,51 +666,18 @@ fn answers(heap: Global, calls: &[Call]) -> Result<Vec<Option<Answer>>, Fail> {
     Ok(all)
 }
 
-// Each type becomes its coarse state, as a call has it.
-fn coarsen() -> [u8; 64] {
+// Each type becomes its coarse state, by the first so many entries of a row.
+fn coarsen(len: usize) -> Call {
     let mut row = [0; 64];
-    for value in 1..7u8 {
-        row[value as usize] = value - 1 + value % 2;
-    }
-    row
-}
-
-// An answer in a form that can be compared: a path by its length.
-#[derive(Clone, Copy, PartialEq, Debug)]
-enum Told {
-    NoAnswer,
-    NoCall,
-    Refused(Refusal),
-    Done,
-    Numbered(usize),
-    Judged(Verdict),
-    Shown(usize),
-}
-
-fn answer_at(answers: &Vec<Option<Answer>>, place: usize) -> Told {
-    match answers.get(place) {
-        None => Told::NoAnswer,
-        Some(None) => Told::NoCall,
-        Some(Some(Answer::Refused(refusal))) => Told::Refused(*refusal),
-        Some(Some(Answer::Done)) => Told::Done,
-        Some(Some(Answer::Numbered(number))) => Told::Numbered(*number),
-        Some(Some(Answer::Judged(verdict))) => Told::Judged(*verdict),
-        Some(Some(Answer::Shown(piece))) => Told::Shown(piece.len()),
-    }
+    row[0..7].copy_from_slice(&COARSEN);
+    Call::Step { row, len }
 }
 
 #[test]
 fn a_run_answers_each_call(rt: HostRuntime) -> Result<(), Fail> {
     let calls = [
-        Call::Enter {
-            store: 0,
-            purpose: 0,
-            role: 0,
-        },
-        Call::Step {
-            row: coarsen(),
-            len: 7,
-        },
+        ENTER,
+        coarsen(7),
         Call::Mark { node: 0, value: 2 },
         Call::Draw {
             from: 0,
@@ -728,11 +692,11 @@ fn a_run_answers_each_call(rt: HostRuntime) -> Result<(), Fail> {
         },
     ];
     let all = answers(rt.alloc(), &calls)?;
-    assert_eq!(rt; answer_at(&all, 0), Told::Numbered(0));
-    assert_eq!(rt; answer_at(&all, 1), Told::Numbered(1));
-    assert_eq!(rt; answer_at(&all, 2), Told::Done);
-    assert_eq!(rt; answer_at(&all, 5), Told::Shown(1));
-    assert_eq!(rt; answer_at(&all, 6), Told::NoAnswer);
+    assert!(rt; matches!(all.get(0), Some(Some(Answer::Numbered(0)))));
+    assert!(rt; matches!(all.get(1), Some(Some(Answer::Numbered(1)))));
+    assert!(rt; matches!(all.get(2), Some(Some(Answer::Done))));
+    assert!(rt; matches!(all.get(5), Some(Some(Answer::Shown(flows))) if flows.len() == 1));
+    assert!(rt; all.get(6).is_none());
     Ok(())
 }
 
@@ -766,15 +730,18 @@ fn a_run_judges_by_what_was_handed_over(rt: HostRuntime) -> Result<(), Fail> {
         judge,
     ];
     let all = answers(rt.alloc(), &calls)?;
-    let unsettled = Refusal {
-        reason: Reason::Unsettled,
-        place: 0,
-    };
-    assert_eq!(rt; answer_at(&all, 2), Told::Refused(unsettled));
-    assert_eq!(rt; answer_at(&all, 4), Told::Judged(refused(0, 0b100)));
-    assert_eq!(rt; answer_at(&all, 5), Told::NoCall);
-    assert_eq!(rt; answer_at(&all, 6), Told::NoCall);
-    assert_eq!(rt; answer_at(&all, 7), Told::Judged(refused(0, 0b100)));
+    let unsettled = Reason::Unsettled.at(0);
+    assert!(rt;
+        matches!(all.get(2), Some(Some(Answer::Refused(refusal))) if *refusal == unsettled)
+    );
+    assert!(rt;
+        matches!(all.get(4), Some(Some(Answer::Judged(verdict))) if *verdict == refused(0, 0b100))
+    );
+    assert!(rt; matches!(all.get(5), Some(None)));
+    assert!(rt; matches!(all.get(6), Some(None)));
+    assert!(rt;
+        matches!(all.get(7), Some(Some(Answer::Judged(verdict))) if *verdict == refused(0, 0b100))
+    );
     Ok(())
 }
 
@@ -786,11 +753,7 @@ fn a_run_takes_back_what_it_did(rt: HostRuntime) -> Result<(), Fail> {
         room: 0,
     };
     let calls = [
-        Call::Enter {
-            store: 0,
-            purpose: 0,
-            role: 0,
-        },
+        ENTER,
         Call::Mark { node: 0, value: 2 },
         Call::Draw {
             from: 0,
@@ -813,42 +776,23 @@ fn a_run_takes_back_what_it_did(rt: HostRuntime) -> Result<(), Fail> {
         path,
     ];
     let all = answers(rt.alloc(), &calls)?;
-    let gone = Refusal {
-        reason: Reason::NotInLabel,
-        place: 2,
-    };
-    assert_eq!(rt; answer_at(&all, 3), Told::Done);
-    assert_eq!(rt; answer_at(&all, 4), Told::Done);
-    assert_eq!(rt; answer_at(&all, 6), Told::Shown(0));
-    assert_eq!(rt; answer_at(&all, 7), Told::Done);
-    assert_eq!(rt; answer_at(&all, 9), Told::Refused(gone));
+    let gone = Reason::NotInLabel.at(2);
+    assert!(rt; matches!(all.get(3), Some(Some(Answer::Done))));
+    assert!(rt; matches!(all.get(4), Some(Some(Answer::Done))));
+    assert!(rt; matches!(all.get(6), Some(Some(Answer::Shown(flows))) if flows.is_empty()));
+    assert!(rt; matches!(all.get(7), Some(Some(Answer::Done))));
+    assert!(rt; matches!(all.get(9), Some(Some(Answer::Refused(refusal))) if *refusal == gone));
     Ok(())
 }
 
 #[test]
 fn a_run_takes_rows_of_64_at_most(rt: HostRuntime) -> Result<(), Fail> {
-    let calls = [
-        Call::Step {
-            row: coarsen(),
-            len: 99,
-        },
-        Call::Step {
-            row: coarsen(),
-            len: 6,
-        },
-        Call::Step {
-            row: coarsen(),
-            len: 7,
-        },
-    ];
+    let calls = [coarsen(99), coarsen(6), coarsen(7)];
     let all = answers(rt.alloc(), &calls)?;
-    let bad = Refusal {
-        reason: Reason::BadArgument,
-        place: 0,
-    };
-    assert_eq!(rt; answer_at(&all, 0), Told::Refused(bad));
-    assert_eq!(rt; answer_at(&all, 1), Told::Refused(bad));
-    assert_eq!(rt; answer_at(&all, 2), Told::Numbered(1));
+    let bad = Reason::BadArgument.at(0);
+    assert!(rt; matches!(all.get(0), Some(Some(Answer::Refused(refusal))) if *refusal == bad));
+    assert!(rt; matches!(all.get(1), Some(Some(Answer::Refused(refusal))) if *refusal == bad));
+    assert!(rt; matches!(all.get(2), Some(Some(Answer::Numbered(1)))));
     Ok(())
 }
 
@@ -863,7 +807,7 @@ fn nodes_are_4096_at_most(rt: HostRuntime) -> Result<(), Fail> {
         workspace.as_mut_slice(),
     );
     enter_plain(&mut inventory, 4096)?;
-    assert_eq!(rt; inventory.enter(0, 0, 0).err(), at(Reason::NoRoom, 0));
+    assert_eq!(rt; inventory.enter(0, 0, 0).err(), Some(Reason::NoRoom.at(0)));
     Ok(())
 }
 
@@ -891,6 +835,9 @@ fn flows_are_16384_at_most(rt: HostRuntime) -> Result<(), Fail> {
     enter_plain(&mut inventory, 128)?;
     draw_all(&mut inventory, 128)?;
     let coarsen = inventory.step(&COARSEN)?;
-    assert_eq!(rt; inventory.draw(0, 0, coarsen).err(), at(Reason::NoRoom, 0));
+    assert_eq!(rt;
+        inventory.draw(0, 0, coarsen).err(),
+        Some(Reason::NoRoom.at(0))
+    );
     Ok(())
 }

@@ -6,14 +6,7 @@ use std::test::Fail;
 const DIAMOND: [u64; 5] = [0b11111, 0b10010, 0b10100, 0b11000, 0b10000];
 
 fn refused(rows: &[u64]) -> Option<Refusal> {
-    match Table::new().read(rows) {
-        Ok(()) => None,
-        Err(refusal) => Some(refusal),
-    }
-}
-
-fn at(reason: Reason, place: usize) -> Option<Refusal> {
-    Some(Refusal { reason, place })
+    Table::new().read(rows).err()
 }
 
 #[test]
@@ -51,8 +44,8 @@ fn ladders_have_the_order_of_numbers(rt: HostRuntime) -> Result<(), Fail> {
 fn ladders_have_2_to_64_levels(rt: HostRuntime) {
     assert!(rt; Ladder::new(2).is_ok());
     assert!(rt; Ladder::new(64).is_ok());
-    assert_eq!(rt; Ladder::new(1).err(), at(Reason::LadderSize, 0));
-    assert_eq!(rt; Ladder::new(65).err(), at(Reason::LadderSize, 0));
+    assert_eq!(rt; Ladder::new(1).err(), Some(Reason::LadderSize.at(0)));
+    assert_eq!(rt; Ladder::new(65).err(), Some(Reason::LadderSize.at(0)));
 }
 
 #[test]
@@ -80,20 +73,26 @@ fn refused_rows_leave_the_table(rt: HostRuntime) -> Result<(), Fail> {
 
 #[test]
 fn rows_that_are_no_lattice_are_refused(rt: HostRuntime) {
-    assert_eq!(rt; refused(&[0b1]), at(Reason::RowCount, 0));
-    assert_eq!(rt; refused(&[1; 65]), at(Reason::RowCount, 0));
-    assert_eq!(rt; refused(&[0b11, 0b110]), at(Reason::StrayBit, 1));
-    assert_eq!(rt; refused(&[0b11, 0b00]), at(Reason::NotReflexive, 1));
-    assert_eq!(rt; refused(&[0b11, 0b11]), at(Reason::NotAntisymmetric, 0));
+    assert_eq!(rt; refused(&[0b1]), Some(Reason::RowCount.at(0)));
+    assert_eq!(rt; refused(&[1; 65]), Some(Reason::RowCount.at(0)));
+    assert_eq!(rt; refused(&[0b11, 0b110]), Some(Reason::StrayBit.at(1)));
+    assert_eq!(rt; refused(&[0b11, 0b00]), Some(Reason::NotReflexive.at(1)));
+    assert_eq!(rt;
+        refused(&[0b11, 0b11]),
+        Some(Reason::NotAntisymmetric.at(0))
+    );
     assert_eq!(rt;
         refused(&[0b011, 0b110, 0b100]),
-        at(Reason::NotTransitive, 0)
+        Some(Reason::NotTransitive.at(0))
     );
-    assert_eq!(rt; refused(&[0b101, 0b010, 0b100]), at(Reason::NotBounded, 1));
+    assert_eq!(rt;
+        refused(&[0b101, 0b010, 0b100]),
+        Some(Reason::NotBounded.at(1))
+    );
     // 1 and 2 are both below 3 and 4, neither of which is below the other
     assert_eq!(rt;
         refused(&[0b111111, 0b111010, 0b111100, 0b101000, 0b110000, 0b100000]),
-        at(Reason::NoJoin, 1)
+        Some(Reason::NoJoin.at(1))
     );
 }
 
@@ -124,7 +123,7 @@ fn pairs_have_64_values_at_most(rt: HostRuntime) -> Result<(), Fail> {
     assert!(rt; lattice::fits(&ten, &Ladder::new(8)?).is_ok());
     assert_eq!(rt;
         lattice::fits(&ten, &Ladder::new(9)?).err(),
-        at(Reason::PairSize, 0)
+        Some(Reason::PairSize.at(0))
     );
     let wide = Pair {
         first: ten,

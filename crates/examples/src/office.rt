@@ -1,5 +1,7 @@
-//! The lattices that the examples share: kinds of data with their states, and purposes; stores and roles are ladders of two.
+//! What the examples share. The lattices: kinds of data with their states, and purposes; stores and roles are ladders of two.
 use lattice::{Ladder, Pair, Refusal, Scheme, Table};
+use policy::Verdict;
+use runs::Call;
 
 pub type Office = Scheme<Ladder, Table, Ladder, Pair<Table, Ladder>>;
 
@@ -46,3 +48,26 @@ pub const TOGETHER: [u32; 7] = [
     0x5000_0000,
     0x5000_0000,
 ];
+
+pub fn passed(clause: usize) -> Verdict {
+    Verdict {
+        passed: true,
+        clause,
+        evidence: 0,
+    }
+}
+
+pub fn refused(clause: usize, evidence: u64) -> Verdict {
+    Verdict {
+        passed: false,
+        clause,
+        evidence,
+    }
+}
+
+/// A node with nothing declared.
+pub const ENTER: Call = Call::Enter {
+    store: 0,
+    purpose: 0,
+    role: 0,
+};

@@ -1,9 +1,9 @@
 //! What a command asks for and what is printed for an answer, where memory suffices. Contracts leave the want of memory
 //! open, so a function that always gave up would be proved too: here each is seen to succeed.
-use crate::office::Office;
+use crate::office::{ENTER, Office, passed, refused};
 use commands::{Command, Verb, answers};
-use lattice::{Reason, Refusal, Sizes};
-use policy::{Policy, Verdict};
+use lattice::{Reason, Sizes};
+use policy::Policy;
 use runs::{Answer, Call};
 use sessions::{Rooms, Session};
 use std::alloc::{AllocError, Global};
@@ -15,20 +15,6 @@ const SIZES: Sizes = Sizes {
     role: 2,
     types: 2,
 };
-
-const ENTER: Call = Call::Enter {
-    store: 0,
-    purpose: 0,
-    role: 0,
-};
-
-fn judged(passed: bool, clause: usize, evidence: u64) -> Answer {
-    Answer::Judged(Verdict {
-        passed,
-        clause,
-        evidence,
-    })
-}
 
 // What is printed for the answer of this number.
 fn text_at(
@@ -56,10 +42,7 @@ fn what_is_made_is_printed_with_its_size(rt: HostRuntime) -> Result<(), Fail> {
 
 #[test]
 fn refusals_are_printed_with_number_place_layer_and_words(rt: HostRuntime) -> Result<(), Fail> {
-    let refusal = Refusal {
-        reason: Reason::NoNode,
-        place: 9,
-    };
+    let refusal = Reason::NoNode.at(9);
     let text = answers::refusal_text(rt.alloc(), refusal)?;
     assert_eq!(rt;
         text.as_str(),
@@ -81,10 +64,14 @@ fn sets_are_printed_in_braces(rt: HostRuntime) -> Result<(), Fail> {
 
 #[test]
 fn judgements_are_printed(rt: HostRuntime) -> Result<(), Fail> {
-    let passed = answers::answer_text(rt.alloc(), &Call::Settle, &judged(true, 1, 0))?;
-    assert_eq!(rt; passed.as_str(), "passed by clause 1");
-    let refused = answers::answer_text(rt.alloc(), &Call::Settle, &judged(false, 0, 0b10100))?;
-    assert_eq!(rt; refused.as_str(), "refused by clause 0, evidence {2, 4}");
+    let text = answers::answer_text(rt.alloc(), &Call::Settle, &Answer::Judged(passed(1)))?;
+    assert_eq!(rt; text.as_str(), "passed by clause 1");
+    let text = answers::answer_text(
+        rt.alloc(),
+        &Call::Settle,
+        &Answer::Judged(refused(0, 0b10100)),
+    )?;
+    assert_eq!(rt; text.as_str(), "refused by clause 0, evidence {2, 4}");
     Ok(())
 }
 

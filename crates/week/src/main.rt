@@ -2,78 +2,96 @@
 //! judged by what reaches it, and the owner of a refused job mends it.
 #![tactic(auto)]
 
-mod calls;
 mod office;
+mod requests;
 mod show;
+mod story;
 mod telling;
 
 use inventory::{FlowRecord, NodeRecord};
 use office::Office;
 use policy::{Policy, Vocabulary};
+use requests::Request;
 use runs::{Answer, Call};
 use std::alloc::{AllocError, Global};
+use std::slice;
 
-// Runs the calls over memory of its own: room for 8 nodes and 8 flows.
-fn run(
-    heap: Global,
-    schemes: &[Office; 1],
-    policies: &[Policy; 1],
-    calls: &[Call],
-) -> Result<Vec<Option<Answer>>, AllocError> {
-    let mut nodes = [NodeRecord {
-        store: 0,
-        purpose: 0,
-        role: 0,
-        marks: 0,
-        label: 0,
-        verified: false,
-    }; 8];
-    let mut flows = [FlowRecord {
-        from: 0,
-        to: 0,
-        step: 0,
-    }; 8];
-    let mut workspace = [0u32; 1024];
-    runs::run(
-        heap,
-        schemes[0].sizes(),
-        &mut nodes,
-        &mut flows,
-        &mut workspace,
-        schemes,
-        policies,
-        calls,
-    )
+// The office, and all that was asked of the inventory so far.
+#[derive(Drop)]
+struct Week {
+    scheme: Office,
+    policy: Policy,
+    requests: Vec<Request>,
 }
 
-// Monday and Tuesday: the policy has not been read yet.
-fn tell_beginning(
-    rt: &HostRuntime,
-    schemes: &[Office; 1],
-    policies: &[Policy; 1],
-) -> anyhow::Result<()> {
-    let week = calls::until_thursday(rt.alloc())?;
-    let begun = calls::THURSDAY.min(week.len());
-    let answers = run(rt.alloc(), schemes, policies, &week[0..begun])?;
-    telling::tell(rt, week.as_slice(), answers.as_slice(), 0)
+impl Week {
+    fn new(heap: Global, scheme: Office) -> Week {
+        Week {
+            scheme,
+            policy: Policy::new(),
+            requests: Vec::new(heap),
+        }
+    }
+
+    // Makes all the calls from a fresh inventory on: over memory of its own, with room for 8 nodes and 8 flows.
+    fn run(&self, heap: Global) -> Result<Vec<Option<Answer>>, AllocError> {
+        let calls: Vec<Call> = self
+            .requests
+            .iter()
+            .map(|request| Call::from(*request))
+            .collect(heap)?;
+        runs::run(
+            heap,
+            self.scheme.sizes(),
+            &mut [NodeRecord::default(); 8],
+            &mut [FlowRecord::default(); 8],
+            &mut [0; 1024],
+            slice::from_ref(&self.scheme),
+            slice::from_ref(&self.policy),
+            calls.as_slice(),
+        )
+    }
+
+    // The answers to what is asked on a day, after all that was asked before.
+    fn answers(
+        &mut self,
+        heap: Global,
+        today: &[Request],
+    ) -> Result<Vec<Option<Answer>>, AllocError> {
+        let before = self.requests.len();
+        self.requests.extend_from_slice(today)?;
+        let answers = self.run(heap)?;
+        answers.into_iter().skip(before).collect(heap)
+    }
 }
 
-// Thursday and Friday. Each run makes the whole week's calls again, from a fresh inventory on.
-fn tell_rest(
+// A day: what is asked is answered and told.
+fn live(
     rt: &HostRuntime,
-    schemes: &[Office; 1],
-    policies: &[Policy; 1],
-) -> anyhow::Result<()> {
-    let mut week = calls::until_thursday(rt.alloc())?;
-    let answers = run(rt.alloc(), schemes, policies, week.as_slice())?;
-    telling::tell(rt, week.as_slice(), answers.as_slice(), calls::THURSDAY)?;
+    week: &mut Week,
+    heading: &str,
+    today: &[Request],
+) -> anyhow::Result<Vec<Option<Answer>>> {
+    let answers = week.answers(rt.alloc(), today)?;
+    println!(rt; "{heading}")?;
+    telling::tell(rt, today, answers.as_slice())?;
+    Ok(answers)
+}
+
+// Thursday and Friday: what a job was refused for on Thursday is asked for on Friday.
+fn live_rest(rt: &HostRuntime, week: &mut Week) -> anyhow::Result<()> {
+    let judging = "Thursday, every job is judged by what reaches it";
+    let answers = live(rt, week, judging, &requests::THURSDAY)?;
     println!(rt; "Friday, passed jobs are started")?;
-    telling::start_passed(rt, week.as_slice(), answers.as_slice(), calls::THURSDAY)?;
-    let friday = week.len();
-    calls::add_friday(&mut week, answers.as_slice())?;
-    let again = run(rt.alloc(), schemes, policies, week.as_slice())?;
-    telling::tell(rt, week.as_slice(), again.as_slice(), friday)?;
-    telling::start_passed(rt, week.as_slice(), again.as_slice(), friday)
+    telling::start_passed(rt, &requests::THURSDAY, answers.as_slice())?;
+    let evidence = match answers.last() {
+        Some(Some(Answer::Judged(verdict))) => verdict.evidence,
+        _ => 0,
+    };
+    let friday = requests::friday(rt.alloc(), evidence)?;
+    let mending = "Friday, the refused job is mended";
+    let answers = live(rt, week, mending, friday.as_slice())?;
+    telling::start_passed(rt, friday.as_slice(), answers.as_slice())
 }
 
 fn main(rt: HostRuntime) -> anyhow::Result<()> {
@@ -86,9 +104,15 @@ fn main(rt: HostRuntime) -> anyhow::Result<()> {
         }
     };
     office::show_scheme(&rt, &scheme)?;
-    let schemes = [scheme];
-    let mut policies = [Policy::new()];
-    tell_beginning(&rt, &schemes, &policies)?;
-    office::read_policy(&rt, &mut policies[0], &schemes[0])?;
-    tell_rest(&rt, &schemes, &policies)
+    let mut week = Week::new(rt.alloc(), scheme);
+    live(
+        &rt,
+        &mut week,
+        "Monday, the file arrives",
+        &requests::MONDAY,
+    )?;
+    let counting = "Tuesday, the layout job counts turns by chapter";
+    live(&rt, &mut week, counting, &requests::tuesday())?;
+    office::read_policy(&rt, &mut week.policy, &week.scheme)?;
+    live_rest(&rt, &mut week)
 }

@@ -1,35 +1,38 @@
-//! Sets of data types in words.
+//! Sets of data types, and paths, in words.
 use lattice::bitset;
 use std::fmt;
+
+// Of the data types by their numbers.
+const NAMES: [&str; 7] = [
+    "nothing",
+    "identity coarse",
+    "identity full",
+    "turns coarse",
+    "turns full",
+    "anything coarse",
+    "anything full",
+];
 
 /// A set of data types, shown by their names.
 #[derive(Clone, Copy)]
 pub struct DataTypes(pub u64);
 
-fn name(value: u8) -> &'static str {
-    match value {
-        1 => "identity coarse",
-        2 => "identity full",
-        3 => "turns coarse",
-        4 => "turns full",
-        5 => "anything coarse",
-        6 => "anything full",
-        _ => "nothing",
+impl DataTypes {
+    /// The set that has this one value.
+    pub fn only(value: u8) -> DataTypes {
+        DataTypes(bitset::insert(0, value))
     }
 }
 
 impl fmt::Display for DataTypes {
     fn fmt<W: fmt::Write>(&self, f: &mut fmt::Formatter<W>) -> fmt::Result {
-        let mut later = false;
         f.write_str("{")?;
-        for value in 0..64u8 {
-            if bitset::contains(self.0, value) {
-                if later {
-                    f.write_str(", ")?;
-                }
-                f.write_str(name(value))?;
-                later = true;
+        let values = (0..64u8).filter(|value| bitset::contains(self.0, *value));
+        for (index, value) in values.enumerate() {
+            if index > 0 {
+                f.write_str(", ")?;
             }
+            f.write_str(NAMES.get(usize::from(value)).unwrap_or(&"nothing"))?;
         }
         f.write_str("}")
     }
@@ -41,13 +44,11 @@ pub struct Flows<'a>(pub &'a [u32]);
 
 impl fmt::Display for Flows<'_> {
     fn fmt<W: fmt::Write>(&self, f: &mut fmt::Formatter<W>) -> fmt::Result {
-        let mut later = false;
-        for flow in self.0 {
-            if later {
-                f.write_str(", ")?;
+        if let Some((first, rest)) = self.0.split_first() {
+            write!(f, "{first}")?;
+            for flow in rest {
+                write!(f, ", {flow}")?;
             }
-            write!(f, "{flow}")?;
-            later = true;
         }
         Ok(())
     }
