@@ -1,9 +1,10 @@
 -- A ladder of 2 to 64 levels is a lattice: its meet is the lower level and its join the higher. Assumes nothing.
-use Rattle.std.specs.Prelude.{◌≡◌, ℕ, ◌-◌, ◌<◌, ◌≤◌, min, max, T, Some, None, nat_le, nat_lt}
+use Rattle.std.specs.Prelude.{◌≡◌, ℕ, ◌-◌, ◌<◌, ◌≤◌, min, max, Bool, true, false, T, Some, None, nat_le, nat_lt, refl}
+use Rattle.std.specs.Bool.{then_some}
 use Rattle.std.proofs.Common.{arith, ltb→lt, leb→le, lt→ltb, le→leb}
 use Rattle.lattice.specs.Order.{Lattice, ladder, meet, join}
 use Rattle.lattice.specs.Bounds.{Ordered}
-use Rattle.lattice.specs.Tests.{T_and, and_T}
+use Rattle.lattice.specs.Tests.{T_and, and_T, from_true, from_false}
 use Rattle.lattice.specs.Orders.{meets_meet, meet_outside}
 use Rattle.lattice.specs.Lattices.{joins_join, join_outside}
 
@@ -41,6 +42,22 @@ module _ (n : ℕ) where
 
   pub ladder_no_join : (a b : ℕ) → ((a < n) → (b < n) → ⊥) → join (ladder n) a b ≡ None
   ladder_no_join a b out = join_outside (ladder n) ladder_ordered a b out
+
+  -- both at once, as the code asks
+  pub ladder_meets : (a b : ℕ) → meet (ladder n) a b ≡ then_some (nat_lt (max a b) n) (min a b)
+  ladder_meets a b = go (nat_lt (max a b) n) refl
+    where
+      go : (t : Bool) → nat_lt (max a b) n ≡ t → meet (ladder n) a b ≡ then_some t (min a b)
+      go true e = let lt = ltb→lt (max a b) n (from_true _ e) in ladder_meet a b (omega arith) (omega arith)
+      go false e = ladder_no_meet a b (λ p q. from_false _ e (lt→ltb (max a b) n (omega arith)))
+
+  -- both at once, as the code asks
+  pub ladder_joins : (a b : ℕ) → join (ladder n) a b ≡ then_some (nat_lt (max a b) n) (max a b)
+  ladder_joins a b = go (nat_lt (max a b) n) refl
+    where
+      go : (t : Bool) → nat_lt (max a b) n ≡ t → join (ladder n) a b ≡ then_some t (max a b)
+      go true e = let lt = ltb→lt (max a b) n (from_true _ e) in ladder_join a b (omega arith) (omega arith)
+      go false e = ladder_no_join a b (λ p q. from_false _ e (lt→ltb (max a b) n (omega arith)))
 
   pub ladder_lattice : 2 ≤ n → n ≤ 64 → Lattice (ladder n)
   ladder_lattice low high = record {

@@ -3,6 +3,7 @@ pub mod Order
 pub mod Bounds
 pub mod Algebra
 pub mod Codes
+pub mod Splits
 pub mod Faults
 pub mod Attributes
 pub mod Schemes

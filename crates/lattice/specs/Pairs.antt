@@ -1,14 +1,16 @@
 -- The pair of two lattices is a lattice. Its values are pairs of parts that are both 0 or neither 0, and a value is at or below
 -- another where both its parts are. Assumes nothing.
-use Rattle.std.specs.Prelude.{◌≡◌, ℕ, zero, suc, ◌+◌, ◌-◌, ◌*◌, ◌/◌, ◌%◌, ◌<◌, ◌≤◌, Bool, true, false, cond, not, ◌&&◌, ◌||◌, T, ◌⊎◌, IfSome, Some, None, Option, ◌==◌, ◌≢◌, nat_lt, refl}
+use Rattle.std.specs.Prelude.{◌≡◌, ℕ, zero, suc, ◌+◌, ◌-◌, ◌*◌, ◌/◌, ◌%◌, ◌<◌, ◌≤◌, Bool, true, false, cond, not, ◌&&◌, ◌||◌, T, ◌⊎◌, IfSome, Some, None, Option, ◌==◌, ◌≢◌, nat_lt, unwrap_or, refl}
 use Rattle.std.proofs.Common.{inl, inr, sym, ap, ap₂, subst, subst₂, ◌∙◌, arith, mul-pos, mul_comm, suc-mul, zero-mul, div-add-mod', ltb→lt, lt→ltb, eqb→eq, leb→le, T_not}
 use Rattle.std.proofs.Math.Dec.{not_T}
 use Rattle.std.proofs.lemmas.Nat.{div-mul-add, mod-mul-add, mul-add-lt, div_below, mod_below}
 use Rattle.std.proofs.lemmas.Bool.{cases_eq, eq-eqb, ne_eqb, cond-true, cond-false, or_left, or_right, or_from}
 use Rattle.lattice.specs.Order.{Order, Lattice, meet, join, top, ladder, pair, paired, pair_size, first_part, second_part, fits}
 use Rattle.lattice.specs.Bounds.{Ordered, Meets, Joins}
+use Rattle.lattice.specs.Splits.{parts_of, split_of}
+use Rattle.lattice.specs.declared.pair.Parts.{Parts}
 use Rattle.lattice.specs.Codes.{left_part, right_part, code, code_of, fitted_size}
-use Rattle.lattice.specs.Tests.{T_and, and_T, T_or, or_T_left, or_T_right, from_true, is_false, same_tests}
+use Rattle.lattice.specs.Tests.{T_and, and_T, T_or, or_T_left, or_T_right, is_true, from_true, is_false, from_false, same_tests}
 use Rattle.lattice.specs.Orders.{ordered, meets_meet, meet_outside, meet_inside}
 use Rattle.lattice.specs.Lattices.{the_meet, the_join, joins_join, join_outside, join_inside, below_bottom}
 use Rattle.lattice.specs.Ladders.{ladder_lattice}
@@ -559,3 +561,23 @@ module _ (p q : Order) (lp : Lattice p) (lq : Lattice q) (n : ℕ) (e : Some n �
         (code_fits p q lp lq is_small x y
         (λ u z. join_inside p (ordered lp) al bl u (sym s ∙ z))
         (λ v z. join_inside q (ordered lq) ar br v (sym t ∙ z)))
+
+-- what the parts of two values say
+pub split_some : (second : Order) (n a b : ℕ) (x y : Parts) → ◌≡◌ {A = Option (Parts × Parts)} (Some (x, y)) (split_of second n a b)
+    → (a < n) × (b < n) × (x ≡ parts_of second a) × (y ≡ parts_of second b)
+split_some second n a b x y e = go (nat_lt a n && nat_lt b n) refl e
+  where
+    go : (t : Bool) → (nat_lt a n && nat_lt b n) ≡ t → ◌≡◌ {A = Option (Parts × Parts)} (Some (x, y)) (cond t (Some (parts_of second a, parts_of second b)) None)
+        → (a < n) × (b < n) × (x ≡ parts_of second a) × (y ≡ parts_of second b)
+    go true is e =
+        let w = T_and (nat_lt a n) (nat_lt b n) (from_true _ is) in
+        let both = ap (λ (o : Option (Parts × Parts)). unwrap_or o (x, y)) e in
+        (ltb→lt a n w.0, ltb→lt b n w.1, λ t. (both t).0, λ t. (both t).1)
+    go false is e = let z : ◌≡◌ {A = ℕ} 0 1 = cc in let w : ⊥ = omega arith in absurd w
+
+pub split_none : (second : Order) (n a b : ℕ) → ◌≡◌ {A = Option (Parts × Parts)} None (split_of second n a b) → a < n → b < n → ⊥
+split_none second n a b e h k = go (nat_lt a n && nat_lt b n) (is_true _ (and_T (nat_lt a n) (nat_lt b n) (lt→ltb a n h) (lt→ltb b n k))) e
+  where
+    go : (t : Bool) → t ≡ true → ◌≡◌ {A = Option (Parts × Parts)} None (cond t (Some (parts_of second a, parts_of second b)) None) → ⊥
+    go true is e = let z : ◌≡◌ {A = ℕ} 0 1 = cc in omega arith
+    go false is e = let z : ◌≡◌ {A = Bool} false true = is in from_false true (sym z) tt

@@ -4,14 +4,15 @@ ghost use Rattle.lattice.specs.Attributes.{word_of, attribute_number};
 
 #[derive(Clone, Copy, PartialEq, Eq, Debug)]
 pub enum Attribute {
-    InStore,
-    UseForPurpose,
-    AccessByRole,
-    DataType,
+    InStore = 0,
+    UseForPurpose = 1,
+    AccessByRole = 2,
+    DataType = 3,
 }
 
 impl Attribute {
     /// The attribute that a word names; any other word names none.
+    // It gives an option and is no `FromStr`: a word that names nothing is no fault of the word.
     pub fn named(word: &str) -> Option<Attribute>
         ensures { MatchOption result ((a : Attribute) → word.now ≢ word_of a) (λ a. word.now ≡ word_of a) }
     {
@@ -28,11 +29,6 @@ impl Attribute {
     pub fn number(self) -> u8
         ensures { result ≡ attribute_number self }
     {
-        match self {
-            Attribute::InStore => 0,
-            Attribute::UseForPurpose => 1,
-            Attribute::AccessByRole => 2,
-            Attribute::DataType => 3,
-        }
+        self as u8
     }
 }
