@@ -45,10 +45,6 @@ records d ss = record { opens = ss; clauses = d.clauses.items }
 abbrev pub seen : Kind → Open → Draft → List ℕ → Result Word Reason
 seen k o d ws = checked (word_of (get_or ws 0 0)) (fault_in d.sizes o.depth (length d.clauses.items) k (position o.last.0 o.last.1) o.phase)
 
-pub seen_by : (k : Kind) (o : Open) (d : Draft) (ws : List ℕ) (n : ℕ) (r : Result Word Reason) → n ≡ length d.clauses.items
-    → r ≡ checked (word_of (get_or ws 0 0)) (fault_in d.sizes o.depth n k (position o.last.0 o.last.1) o.phase) → seen k o d ws ≡ r
-seen_by k o d ws n r e h = ap (λ m. checked (word_of (get_or ws 0 0)) (fault_in d.sizes o.depth m k (position o.last.0 o.last.1) o.phase)) (sym e) ∙ sym h
-
 seen_as : (k : Kind) (o : Open) (d : Draft) (w : ℕ) (ws : List ℕ) (fs : List Frame) → length fs + 1 ≡ o.depth → admitted d.sizes (reading k o d fs) w ≡ seen k o d (w ∷ ws)
 seen_as k o d w ws fs el =
     let deep : suc (length fs) ≡ o.depth = omega arith in

@@ -64,6 +64,7 @@ impl<V: Vocabulary> Asked<'_, V> {
                 clause: self.number,
             };
         };
+        // The numbers between are those of exceptions' own exceptions: each next one stands at the end of the one before.
         let mut next = self.number + 1;
         while next < usize::from(own.end) {
             let exception = Asked {

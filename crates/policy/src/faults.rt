@@ -1,10 +1,10 @@
 //! Why a word cannot stand where it does.
-ghost use Rattle.std.specs.Prelude.{◌≡◌};
+ghost use Rattle.std.specs.Prelude.{◌≡◌, length};
 ghost use Rattle.policy.specs.Decode.{word_of};
 ghost use Rattle.policy.specs.Words.{size_of, position, checked, fault_in, head_fault, value_fault};
 
 use crate::clause::Kind;
-use crate::draft::{Open, Phase};
+use crate::draft::{Draft, Open, Phase};
 use crate::word::{Word, word_of};
 use lattice::{Reason, Sizes};
 
@@ -46,35 +46,34 @@ fn value_fault(sizes: Sizes, last: (u8, u8), attribute: u8, value: u8) -> Option
     }
 }
 
-// Why a word is declined inside an open clause of this kind.
-fn fault_in(sizes: Sizes, heads: usize, kind: Kind, top: Open, word: Word) -> Option<Reason>
-    ensures { result ≡ fault_in sizes top.depth heads kind (position top.last.0 top.last.1) top.phase word }
-{
-    match (word, top.phase) {
-        (Word::Value(attribute, value), Phase::Listing) => value_fault(
-            sizes, top.last, attribute, value,
-        ),
-        (Word::Head(head), Phase::Excepting | Phase::Excepted) => head_fault(
-            top, heads, kind, head,
-        ),
-        (Word::Except, Phase::Listing) | (Word::End, Phase::Listing | Phase::Excepted) => None,
-        _ => Some(Reason::MisplacedWord),
+impl Draft {
+    // Why a word is declined inside an open clause of this kind.
+    fn fault_in(&self, kind: Kind, top: Open, word: Word) -> Option<Reason>
+        ensures { result ≡ fault_in self.now.sizes top.depth (length self.now.clauses.items) kind (position top.last.0 top.last.1) top.phase word }
+    {
+        match (word, top.phase) {
+            (Word::Value(attribute, value), Phase::Listing) => value_fault(
+                self.sizes, top.last, attribute, value,
+            ),
+            (Word::Head(head), Phase::Excepting | Phase::Excepted) => head_fault(
+                top,
+                self.clauses.len(),
+                kind,
+                head,
+            ),
+            (Word::Except, Phase::Listing) | (Word::End, Phase::Listing | Phase::Excepted) => None,
+            _ => Some(Reason::MisplacedWord),
+        }
     }
-}
 
-/// The word that a number says, or why it is declined inside an open clause of this kind.
-pub(crate) fn admitted(
-    sizes: Sizes,
-    heads: usize,
-    kind: Kind,
-    top: Open,
-    word: u32,
-) -> Result<Word, Reason>
-    ensures { result ≡ checked (word_of word) (fault_in sizes top.depth heads kind (position top.last.0 top.last.1) top.phase) }
-{
-    let word = word_of(word).ok_or(Reason::BadWord)?;
-    match fault_in(sizes, heads, kind, top, word) {
-        Some(reason) => Err(reason),
-        None => Ok(word),
+    /// The word that a number says, or why it is declined inside an open clause of this kind.
+    pub(crate) fn admitted(&self, kind: Kind, top: Open, word: u32) -> Result<Word, Reason>
+        ensures { result ≡ checked (word_of word) (fault_in self.now.sizes top.depth (length self.now.clauses.items) kind (position top.last.0 top.last.1) top.phase) }
+    {
+        let word = word_of(word).ok_or(Reason::BadWord)?;
+        match self.fault_in(kind, top, word) {
+            Some(reason) => Err(reason),
+            None => Ok(word),
+        }
     }
 }

@@ -1,11 +1,10 @@
 //! A clause record while its words are read: its list grows, and is filled up at the end.
 ghost use Rattle.std.specs.Prelude.{◌≡◌, ◌<◌};
-ghost use Rattle.policy.specs.Labels.{filled};
 ghost use Rattle.policy.specs.Sized.{Sized};
 ghost use Rattle.policy.specs.Walk.{listed, with_value, closed, fresh};
 
 use crate::clause::{ClauseRecord, Kind};
-use crate::label::{Label, or_top};
+use crate::label::Label;
 use lattice::Sizes;
 
 impl Label {
@@ -21,19 +20,6 @@ impl Label {
             2 => self.role |= bit,
             _ => self.types |= bit,
         }
-    }
-}
-
-// The label with an attribute left out as the top alone.
-fn filled_label(sizes: Sizes, list: Label) -> Label
-    requires { Sized sizes }
-    ensures { result ≡ filled sizes list }
-{
-    Label {
-        store: or_top(sizes.store, list.store),
-        purpose: or_top(sizes.purpose, list.purpose),
-        role: or_top(sizes.role, list.role),
-        types: or_top(sizes.types, list.types),
     }
 }
 
@@ -62,7 +48,7 @@ impl ClauseRecord {
         requires { Sized sizes }
         ensures { self.new ≡ closed sizes end self.old }
     {
-        self.list = filled_label(sizes, self.list);
+        self.list = self.list.filled(sizes);
         self.end = end;
     }
 }

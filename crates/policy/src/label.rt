@@ -1,9 +1,11 @@
 //! What a policy is asked about: a set of values for each attribute.
 ghost use Rattle.std.specs.Prelude.{◌≡◌, ◌≤◌};
 ghost use Rattle.lattice.specs.Schemes.{scheme_sizes};
-ghost use Rattle.policy.specs.Labels.{or_top, declared};
+ghost use Rattle.policy.specs.Sized.{Sized};
+ghost use Rattle.policy.specs.Labels.{or_top, filled, declared};
 
 use crate::vocabulary::Vocabulary;
+use lattice::Sizes;
 
 #[derive(Clone, Copy, PartialEq, Eq, Debug, Default)]
 pub struct Label {
@@ -14,7 +16,7 @@ pub struct Label {
 }
 
 // The set, or the top alone where the set is empty.
-pub(crate) fn or_top(size: u8, set: u64) -> u64
+fn or_top(size: u8, set: u64) -> u64
     requires { (1 ≤ size) × (size ≤ 64) }
     ensures { result ≡ or_top size set }
 {
@@ -22,16 +24,26 @@ pub(crate) fn or_top(size: u8, set: u64) -> u64
 }
 
 impl Label {
-    /// The label with each attribute that is left out, an empty set, as its top alone. Data types are never left out: there may be none.
-    pub fn declared<V: Vocabulary>(self, scheme: &V) -> Label
-        ensures { result ≡ declared (scheme_sizes (V.orders scheme.now)) self }
+    /// The label with each attribute that is left out, an empty set, as its top alone.
+    pub(crate) fn filled(self, sizes: Sizes) -> Label
+        requires { Sized sizes }
+        ensures { result ≡ filled sizes self }
     {
-        let sizes = scheme.sizes();
         Label {
             store: or_top(sizes.store, self.store),
             purpose: or_top(sizes.purpose, self.purpose),
             role: or_top(sizes.role, self.role),
+            types: or_top(sizes.types, self.types),
+        }
+    }
+
+    /// The label with each attribute that is left out, an empty set, as its top alone. Data types are never left out: there may be none.
+    pub fn declared<V: Vocabulary>(self, scheme: &V) -> Label
+        ensures { result ≡ declared (scheme_sizes (V.orders scheme.now)) self }
+    {
+        Label {
             types: self.types,
+            ..self.filled(scheme.sizes())
         }
     }
 }

@@ -6,7 +6,6 @@ ghost use Rattle.policy.specs.Stands.{Drafted};
 
 use crate::clause::{ClauseRecord, Kind};
 use crate::draft::{Draft, Open, Phase};
-use crate::faults::admitted;
 use crate::word::{Word, word_of};
 use arrayvec::ArrayVec;
 use lattice::{Reason, Refusal, Sizes};
@@ -39,9 +38,9 @@ impl Draft {
         let mut left = words;
         while let [first, rest @ ..] = left {
             let place = self.total - left.len();
-            let word = admitted(self.sizes, self.clauses.len(), kind, top, *first).map_err(
-                |reason| reason.at(place),
-            )?;
+            let word = self
+                .admitted(kind, top, *first)
+                .map_err(|reason| reason.at(place))?;
             left = rest;
             match word {
                 Word::Head(inner) => {
