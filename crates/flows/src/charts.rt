@@ -8,6 +8,6 @@ pub(crate) struct Chart<'a> {
     pub(crate) rows: &'a [[u8; 64]; 32],
     /// For each node the last flow that starts there.
     pub(crate) head: &'a [Option<u16>],
-    /// For each flow the flow before it that starts at the same node.
+    /// For each flow the flow before it that starts at the same node: lists by number, since all memory is fixed.
     pub(crate) link: &'a [Option<u16>],
 }
