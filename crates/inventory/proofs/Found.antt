@@ -2,6 +2,7 @@
 use Rattle.std.proofs.Common.{◌≡◌, ℕ, ◌<◌, Bool, true, false, not, ltb, List, [], ◌∷◌, map, length, get_or, is_some, Some, None, Option, sym, refl, ap, ◌∙◌, ⊎_elim, arith, cond, ◌+◌}
 use Rattle.std.specs.List.{position, position_or_len, prefix_len}
 use Rattle.std.proofs.lemmas.Bool.{cond-true, eq-eqb, and_from, cases_lt, lt-ltb}
+use Rattle.std.proofs.lemmas.Option.{none-some}
 use Rattle.std.proofs.lemmas.List.{length-map}
 use Rattle.std.proofs.lemmas.List.Quantifiers.{position-Some}
 use Rattle.std.proofs.lemmas.List.Sums.{fails_before_first}
@@ -11,9 +12,6 @@ use Rattle.inventory.specs.View.{no_flow_yet}
 pub not_standing : (o : Option ℕ) → is_some o ≡ false → o ≡ None
 not_standing (Some k) h = cc
 not_standing None h = refl
-
-some_none : (k : ℕ) → ◌≡◌ {A = Option ℕ} (Some k) None → ⊥
-some_none k h = let z : ◌≡◌ {A = ℕ} 0 1 = cc in omega arith
 
 module _ {A B : Type 0} (f : A → B) (p : B → Bool) where
   prefix_map : (xs : List A) → prefix_len (λ x. not (p (f x))) xs ≡ prefix_len (λ y. not (p y)) (map f xs)
@@ -32,7 +30,7 @@ module _ (a b s : ℕ) where
   none_same fs h j l =
       let p : Flow → Bool = λ f. same_flow f a b s in
       let n = position_or_len p fs in
-      ⊎_elim (λ low. absurd (some_none n (sym (cond-true (ltb n (length fs)) (Some n) None (lt-ltb n (length fs) low)) ∙ h)))
+      ⊎_elim (λ low. absurd (none-some n (sym h ∙ cond-true (ltb n (length fs)) (Some n) None (lt-ltb n (length fs) low))))
       (λ past. fails_before_first p fs j no_flow_yet (omega arith))
       (cases_lt n (length fs))
 

@@ -1,5 +1,5 @@
 -- A new inventory.
-use Rattle.std.proofs.Common.{◌≡◌, ℕ, zero, suc, ◌-◌, ◌/◌, ◌<◌, min, true, List, [], ◌∷◌, ◌++◌, length, take, set, replicate, refl, ap, ◌∙◌, subst, arith, lit<}
+use Rattle.std.proofs.Common.{◌≡◌, ℕ, zero, suc, ◌-◌, ◌/◌, ◌<◌, min, true, List, [], ◌∷◌, ◌++◌, length, take, set, replicate, sym, refl, ap, ◌∙◌, subst, arith, lit<}
 use Rattle.std.proofs.lemmas.List.{take_at}
 use Rattle.flows.specs.declared.records.NodeRecord.{NodeRecord}
 use Rattle.flows.specs.declared.records.FlowRecord.{FlowRecord}
@@ -9,6 +9,7 @@ use Rattle.inventory.specs.View.{nearest_sizes}
 use Rattle.inventory.specs.View.{made_of, made_new, first_steps, ledger_of}
 use Rattle.inventory.specs.Sound.{Sound, GoodSize, GoodRows, BoundedRows, SilentRows}
 use Rattle.std.proofs.lemmas.List.FromFn.{length-range_with_len}
+use Rattle.inventory.proofs.Outcomes.{Parts, parts}
 use Rattle.inventory.proofs.RowLaws.{counting_good, padded_bounded, padded_silent, zero_table}
 
 nearest_good : (n : ℕ) → GoodSize (nearest_size n)
@@ -67,11 +68,15 @@ module _ (z : Sizes) (ns : List NodeRecord) (fs : List FlowRecord) (ws : List �
         settled = true;
       }) (front (nearest_size z.types))
 
-  pub made_is : (sizes : Sizes) (steps : List (List ℕ)) (nodes flows : ℕ) → sizes ≡ nearest_sizes z → steps ≡ first_steps sizes.types
+  -- what was made of the clamped sizes, the first rows and the rooms
+  pub made_fresh : (sizes : Sizes) (steps : List (List ℕ)) (nodes flows : ℕ) → sizes ≡ nearest_sizes z → steps ≡ first_steps sizes.types
       → nodes ≡ min 4096 (min (length ns) (length ws / 128)) → flows ≡ min 16384 (length fs)
-      → made_of ns fs ws steps 1 0 0 nodes flows sizes true ≡ made_new z ns fs ws
-  made_is sizes steps nodes flows e₁ e₂ e₃ e₄ =
-      ap (λ s. made_of ns fs ws s 1 0 0 nodes flows sizes true) e₂
-      ∙ ap (λ y. made_of ns fs ws (first_steps y.types) 1 0 0 nodes flows y true) e₁
-      ∙ ap (λ n. made_of ns fs ws (first_steps (nearest_size z.types)) 1 0 0 n flows (nearest_sizes z) true) e₃
-      ∙ ap (λ f. made_of ns fs ws (first_steps (nearest_size z.types)) 1 0 0 (min 4096 (min (length ns) (length ws / 128))) f (nearest_sizes z) true) e₄
+      → record {
+        kept : Parts (made_of ns fs ws steps 1 0 0 nodes flows sizes true);
+        memory : made_of ns fs ws steps 1 0 0 nodes flows sizes true ≡ made_new z ns fs ws;
+        ledger : ledger_of (made_of ns fs ws steps 1 0 0 nodes flows sizes true) ≡ fresh z (length ns) (length fs) (length ws);
+      }
+  made_fresh sizes steps nodes flows e₁ e₂ e₃ e₄ =
+      let is : made_of ns fs ws steps 1 0 0 nodes flows sizes true ≡ made_new z ns fs ws =
+      λ i. made_of ns fs ws ((e₂ ∙ ap (λ y. first_steps y.types) e₁) i) 1 0 0 (e₃ i) (e₄ i) (e₁ i) true in
+      record { kept = parts _ (subst Sound (sym is) fresh_sound); memory = is; ledger = ap ledger_of is ∙ fresh_ledger }

@@ -14,9 +14,11 @@ mod settling;
 /// An inventory over three pieces of memory that the caller lends.
 #[derive(Drop)]
 pub struct Inventory<'a> {
+    // The caller lends the records and the words, and of these slices the first `node_count` and `flow_count` are in use.
     nodes: &'a mut [NodeRecord],
     flows: &'a mut [FlowRecord],
     workspace: &'a mut [u32],
+    // All 32 rows stand in fixed memory, since `flows::spread` reads the whole table.
     steps: [[u8; 64]; 32],
     step_count: usize,
     node_count: usize,

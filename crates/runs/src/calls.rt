@@ -11,6 +11,7 @@ pub enum Call {
         purpose: u64,
         role: u64,
     },
+    // A buffer with its length, since a call is `Copy`, and a row of any length may be tried.
     Step {
         row: [u8; 64],
         len: usize,

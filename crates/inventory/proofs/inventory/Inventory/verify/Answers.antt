@@ -9,8 +9,5 @@ pub returns-in_err-check_node-clause-called : goal.returns-in_err-check_node-cla
 returns-in_err-check_node-clause-called c =
     exit c.args.self.now (verify c.args.node c.args.verified) plain_answer (λ e. refl) _ _ c.in_err-check_node.ensures c.from_residual.ensures.1
 
-pub invariant_of-self : goal.invariant_of-self
-invariant_of-self c = (verified_kept c.args.self.now c.args.node c.args.verified c.in_ok-check_node.ensures).0
-
 pub returns-clause-called : goal.returns-clause-called
 returns-clause-called c = (verified_kept c.args.self.now c.args.node c.args.verified c.in_ok-check_node.ensures).1
