@@ -1,5 +1,5 @@
 -- The values of arguments, one after another.
-use Rattle.std.proofs.Common.{◌≡◌, ℕ, ◌+◌, Bool, true, false, cond, ltb, List, [], ◌∷◌, ◌++◌, length, Some, None, Ok, Err, Option, Result, sym, refl, ap, ◌∙◌, append_assoc}
+use Rattle.std.proofs.Common.{◌≡◌, ℕ, ◌+◌, ◌<◌, Bool, true, false, cond, ltb, List, [], ◌∷◌, ◌++◌, length, get_or, drop, Some, None, Ok, Err, Option, Result, sym, refl, ap, ◌∙◌, append_assoc, add-one, drop-cons}
 use Rattle.commands.specs.declared.faults.Fault.{Fault}
 use Rattle.commands.specs.declared.faults.Fault.TheVariants.{MissingWord, SurplusWord}
 use Rattle.commands.specs.declared.verbs.Verb.{Verb}
@@ -19,6 +19,10 @@ behind_none (Err f) = refl
 pub behind_push : (ns : List ℕ) (n : ℕ) (r : Result (List ℕ) Fault) → behind ns (in_front n r) ≡ behind (ns ++ (n ∷ [])) r
 behind_push ns n (Ok ms) = ap (λ (l : List ℕ). Ok l) (sym (append_assoc ns (n ∷ []) ms))
 behind_push ns n (Err f) = refl
+
+-- the words that are left begin with the word of this number
+pub turn : (all : List (List ℕ)) (n : ℕ) (word : List ℕ) → (n < length all) × (word ≡ get_or all n word) → drop n all ≡ word ∷ drop (n + 1) all
+turn all n word at = let h : n < length all = at.0 in rw (add-one, drop-cons all n word, ← at.1)
 
 module _ (verb : Verb) (at : ℕ) where
   -- what a further word gives, by its kind and its value

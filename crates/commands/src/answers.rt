@@ -1,7 +1,7 @@
 //! What is printed for an answer.
-ghost use Rattle.std.specs.Prelude.{◌≡◌, ◌++◌, IfOk, string_bytes, decimal, OnOk};
+ghost use Rattle.std.specs.Prelude.{◌≡◌, IfOk, string_bytes, OnOk};
 ghost use Rattle.runs.specs.Calls.{answer_of};
-ghost use Rattle.commands.specs.Answers.{answer_text, refusal_text, verdict_text, number_text, path_text, set_text, comma_after, size_text, count_text, room_text};
+ghost use Rattle.commands.specs.Answers.{answer_text, refusal_text, verdict_text, number_text, path_text, set_text, one_more, size_text, count_text, room_text};
 
 use lattice::{Refusal, bitset};
 use policy::Verdict;
@@ -30,7 +30,7 @@ fn number_text(heap: Global, call: &Call, number: usize) -> Result<String, Alloc
 
 // One value more, after a comma where it is not the first.
 fn push_value(values: &mut String, value: u8) -> Result<(), AllocError>
-    ensures { OnOk result (string_bytes values.new ≡ string_bytes values.old ++ (comma_after (string_bytes values.old) ++ decimal value)) }
+    ensures { OnOk result (string_bytes values.new ≡ one_more (string_bytes values.old) value) }
 {
     if values.is_empty() {
         write!(values, "{value}")

@@ -7,7 +7,7 @@ ghost use Rattle.commands.specs.Stops.{Gives};
 use crate::faults::Fault;
 use crate::stops::Stop;
 use crate::verbs::{Kind, Verb};
-use lexer::NumberFault;
+use lexer::{LineWords, NumberFault};
 use std::alloc::Global;
 
 // A number of at most `most`.
@@ -78,11 +78,9 @@ pub fn values(heap: Global, verb: Verb, words: &[u8]) -> Result<Vec<u64>, Stop>
     ensures { Gives vec_items (values_of verb (words_of words.now)) result }
 {
     let mut values = Vec::new(heap);
-    let mut rest = words;
-    while let Some((word, after)) = lexer::first_word(rest) {
+    for word in LineWords::new(words) {
         let kind = verb.kind_at(values.len()).ok_or(Fault::SurplusWord)?;
         values.push(value(kind, word)?)?;
-        rest = after;
     }
     if values.len() < verb.kinds().len() {
         return Err(Stop::Fault(Fault::MissingWord));

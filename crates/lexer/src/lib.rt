@@ -14,4 +14,4 @@ pub use lines::first_line;
 pub use names::is_name;
 pub use numbers::{NumberFault, number};
 pub use sets::set;
-pub use words::first_word;
+pub use words::{LineWords, first_word};

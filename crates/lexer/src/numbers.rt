@@ -43,7 +43,7 @@ fn number_in(base: u32, digits: &[u8], most: u64) -> Result<u64, NumberFault>
     requires greatest { base ≤ 36 }
     ensures { result ≡ up_to most (in_base base digits.now) }
 {
-    // The library would read a sign too.
+    // The library would read a sign too. Digits are text, so past this test only the number can be at fault.
     if !is_numeral(base, digits) {
         return Err(NumberFault::NotANumber);
     }
