@@ -1,9 +1,12 @@
 -- The rows of an order, and that the table of a lattice's rows is the lattice's order. Assumes nothing.
-use Rattle.std.proofs.Common.{◌≡◌, ℕ, zero, suc, ◌+◌, ◌-◌, ◌^◌, ◌<◌, ◌≤◌, Bool, true, false, cond, T, leb, List, [], ◌∷◌, ◌++◌, length, get_or, take, drop, set, None, sym, refl, ap, ◌∙◌, subst, ap₂, inl, inr, pow-suc, add-one, arith, length-append, take-append-drop, drop-drop, take-suc-set, drop-set-lt}
+use Rattle.std.proofs.Common.{◌≡◌, ℕ, zero, suc, ◌+◌, ◌^◌, ◌<◌, ◌≤◌, Bool, true, false, cond, T, leb, List, [], ◌∷◌, ◌++◌, length, get_or, take, drop, None, sym, refl, ap, ◌∙◌, subst, ap₂, inl, inr, pow-suc, add-one, arith, length-append}
 use mathlib.Core.Path.{fun_ext}
 use lib.ListN.{get_or-append}
 use lib.Seq.{get_or_at, take-append_seam}
 use Rattle.std.proofs.lemmas.Bool.{cases_eq, le-leb, cond-true, cond_below}
+use Rattle.std.specs.List.{fold, range_with_len}
+use Rattle.std.proofs.lemmas.List.Sums.{fold_push}
+use Rattle.lattice.proofs.Values.{range_end}
 use Rattle.lattice.specs.Sets.{has, with, inserted}
 use Rattle.lattice.specs.Order.{Order, Lattice, table}
 use Rattle.lattice.specs.Faults.{Clean, fault}
@@ -15,18 +18,14 @@ use Rattle.choice.specs.Rows.{passing, row, rows_to, all_rows, with_rows}
 
 -- ---- the set of the numbers that pass
 
-pub passing_start : (p : ℕ → Bool) → 0 ≡ passing p 0
+pub passing_fold : (p : ℕ → Bool) (n : ℕ) → n ≤ 64 → fold (λ s j. cond (p j) (inserted s j) s) 0 (range_with_len 0 n) ≡ passing p n
 unfolding passing
-passing_start p = refl
-
--- one turn of a loop that gathers them
-pub passing_taken : (p : ℕ → Bool) (n s : ℕ) → s ≡ passing p n → p n ≡ true → n < 64 → inserted s n ≡ passing p (n + 1)
-unfolding passing
-passing_taken p n s e t h = sym (cond_below n 64 (with s n) s h) ∙ ap (λ (x : ℕ). with x n) e ∙ rw (add-one, t)
-
-pub passing_passed : (p : ℕ → Bool) (n s : ℕ) → s ≡ passing p n → p n ≡ false → s ≡ passing p (n + 1)
-unfolding passing
-passing_passed p n s e f = e ∙ rw (add-one, f)
+passing_fold p zero h = refl
+passing_fold p (suc n) h =
+    ap (fold (λ s j. cond (p j) (inserted s j) s) 0) (range_end 0 n n (omega arith))
+    ∙ fold_push (λ s j. cond (p j) (inserted s j) s) 0 (range_with_len 0 n) n
+    ∙ ap (λ s. cond (p n) (inserted s n) s) (passing_fold p n (omega arith))
+    ∙ ap (λ s. cond (p n) s (passing p n)) (sym (cond_below n 64 (with (passing p n) n) (passing p n) (omega arith)))
 
 with_small : (s n : ℕ) → s < 2 ^ n → with s n < 2 ^ suc n
 unfolding with
@@ -124,39 +123,11 @@ module _ (o : Order) (l : Lattice o) where
   pub rows_faultless : fault (all_rows o) ≡ None
   rows_faultless = lattice_faultless (all_rows o) (rows_clean o) rows_lattice
 
--- ---- rows that are written one by one
+-- ---- rows that are written over the first entries
 
 module _ (o : Order) where
-  pub rows_turn : (now old : List ℕ) (i v : ℕ) → i < length now → v ≡ row o i
-      → (take i now ≡ rows_to o i) × (drop i now ≡ drop i old)
-      → (take (i + 1) (set now i v) ≡ rows_to o (i + 1)) × (drop (i + 1) (set now i v) ≡ drop (i + 1) old)
-  rows_turn now old i v lt e w = (
-    ap (λ (n : ℕ). take n (set now i v)) (add-one i)
-        ∙ take-suc-set now i v lt
-        ∙ ap₂ (λ (xs : List ℕ) (x : ℕ). xs ++ (x ∷ [])) w.0 e
-        ∙ sym (rows_more o i),
-    drop-set-lt (i + 1) now i v (omega arith)
-        ∙ sym (drop-drop 1 i now)
-        ∙ ap (λ (xs : List ℕ). drop 1 xs) w.1
-        ∙ drop-drop 1 i old,
-  )
-
   pub rows_fit : (old : List ℕ) → o.size ≤ length old → with_rows o old ≡ all_rows o ++ drop o.size old
   rows_fit old h = cond-true (leb o.size (length old)) _ _ (le-leb o.size (length old) h)
 
-  pub rows_end : (now old : List ℕ) (i : ℕ) → i ≡ o.size → o.size ≤ length old
-      → (take i now ≡ rows_to o i) × (drop i now ≡ drop i old)
-      → (now ≡ with_rows o old) × (take o.size now ≡ all_rows o)
-  rows_end now old i e h w = (
-    sym (take-append-drop i now)
-        ∙ ap₂ (λ (xs ys : List ℕ). xs ++ ys) w.0 w.1
-        ∙ ap (λ (n : ℕ). rows_to o n ++ drop n old) e
-        ∙ sym (rows_fit old h),
-    subst (λ (n : ℕ). take n now ≡ rows_to o n) e w.0,
-  )
-
-  -- the part of what was written that has as many rows as there are values
-  pub rows_part : (now old : List ℕ) (n : ℕ) → n ≡ o.size → o.size ≤ length old → now ≡ with_rows o old → take (n - 0) now ≡ all_rows o
-  rows_part now old n e h w =
-      let count : n - 0 ≡ length (all_rows o) = omega (arith, rows_length o o.size) in
-      ap₂ (λ (k : ℕ) (xs : List ℕ). take k xs) count (w ∙ rows_fit old h) ∙ take-append_seam (all_rows o) (drop o.size old)
+  pub rows_taken : (old : List ℕ) → take o.size (all_rows o ++ drop o.size old) ≡ all_rows o
+  rows_taken old = ap (λ (n : ℕ). take n (all_rows o ++ drop o.size old)) (sym (rows_length o o.size)) ∙ take-append_seam (all_rows o) (drop o.size old)

@@ -4,9 +4,9 @@
 --   rows_to      the rows of the values below a bound
 --   all_rows     the rows of every value
 --   with_rows    entries of which the first are overwritten by the rows; the entries as they were where the rows do not fit
---   table_order  the order of a table in memory: rows past its size count for nothing
+--   table_order  the order of a table in memory
 -- The law above them, that the table of all rows of a lattice is its order again, stands on the contracts of `write_rows` and `tabulated`.
-use Rattle.std.specs.Prelude.{ℕ, zero, suc, Bool, cond, List, [], ◌∷◌, ◌++◌, length, take, drop, nat_le}
+use Rattle.std.specs.Prelude.{ℕ, zero, suc, Bool, cond, List, [], ◌∷◌, ◌++◌, length, drop, nat_le}
 use Rattle.lattice.specs.Sets.{with}
 use Rattle.lattice.specs.Order.{Order, table}
 use Rattle.lattice.specs.declared.table.Table.{Table}
@@ -29,4 +29,4 @@ abbrev pub with_rows : Order → List ℕ → List ℕ
 with_rows o old = cond (nat_le o.size (length old)) (all_rows o ++ drop o.size old) old
 
 abbrev pub table_order : Table → Order
-table_order t = table (take t.size t.rows)
+table_order t = table t.rows.items

@@ -1,7 +1,7 @@
 //! A lattice that is chosen at run time: a ladder, a table, or the pair of two tables.
 #![tactic(auto)]
 
-ghost use Rattle.std.specs.Prelude.{◌≡◌, ◌≤◌, true, false, take, is_ok, Some, None, Decides, MatchResult};
+ghost use Rattle.std.specs.Prelude.{◌≡◌, ◌≤◌, true, false, is_ok, Some, None, Decides, MatchResult};
 ghost use Rattle.lattice.specs.Order.{Lattice as Laws, ladder, table, pair, fits as within};
 ghost use Rattle.lattice.specs.Faults.{Clean, fault};
 ghost use Rattle.choice.specs.Choices.{choice_order};
@@ -14,7 +14,7 @@ use lattice::{Ladder, Lattice, Pair, Reason, Refusal, Table, fits};
 
 pub mod tabulate;
 
-pub use tabulate::{tabulated, write_rows};
+pub use tabulate::{TooFewEntries, tabulated, write_rows};
 
 #[derive(Drop)]
 pub enum Choice {
@@ -37,8 +37,7 @@ impl Choice {
         ensures value { MatchResult result (λ t. (fault rows.now ≡ None) × (choice_order t ≡ table rows.now)) (λ e. fault rows.now ≡ Some e) }
         ensures accepted { Decides (is_ok result) (Clean rows.now × Laws (table rows.now)) }
     {
-        let mut table = Table::new();
-        table.read(rows)?;
+        let table = Table::try_from(rows)?;
         Ok(Choice::Table(table))
     }
 
@@ -54,7 +53,7 @@ impl Choice {
         }))
     }
 
-    /// A second choice of the same order.
+    /// A second choice of the same order. A clone could fail for want of memory, and this cannot.
     pub fn copied(&self) -> Choice
         ensures { choice_order result ≡ choice_order self.now }
     {
@@ -74,11 +73,11 @@ impl Lattice for Choice {
 
     ghost lawful = { elim [
       | Ladder l ↦ ladder_lattice l.levels l.ok.0 l.ok.1
-      | Table t ↦ table_back (take t.size t.rows) t.lawful
+      | Table t ↦ table_back t.rows.items t.lawful
       | Pair p ↦
           pair_lattice _ _
-          (table_back (take p.first.size p.first.rows) p.first.lawful)
-          (table_back (take p.second.size p.second.rows) p.second.lawful)
+          (table_back p.first.rows.items p.first.lawful)
+          (table_back p.second.rows.items p.second.lawful)
     ] };
 
     fn size(&self) -> u8 {

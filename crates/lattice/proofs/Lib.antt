@@ -1,2 +1,5 @@
 pub mod Members
 pub mod Masks
+pub mod Values
+pub mod Searches
+pub mod Meets

@@ -1,5 +1,5 @@
 -- An order without faults is a lattice, and a lattice has none. Assumes nothing.
-use Rattle.std.specs.Prelude.{◌≡◌, ℕ, zero, suc, ◌<◌, ◌≤◌, Bool, true, false, not, ◌&&◌, T, ◌⊎◌, is_some as option_is_some, Some, None, Option, ◌==◌, refl}
+use Rattle.std.specs.Prelude.{◌≡◌, ℕ, zero, suc, ◌<◌, ◌≤◌, Bool, true, false, not, ◌&&◌, T, ◌⊎◌, is_some as option_is_some, Some, None, Ok, Err, Option, ◌==◌, refl}
 use Rattle.std.proofs.Math.Logic.{inl, inr}
 use Rattle.std.proofs.Math.Path.{sym, subst}
 use Rattle.std.proofs.Common.{ap, ◌∙◌, eqb→eq}
@@ -9,7 +9,7 @@ use Rattle.std.proofs.lemmas.Bool.{cases_eq, cases_lt, eq-eqb}
 use Rattle.lattice.specs.Sets.{least}
 use Rattle.lattice.specs.Order.{Order, Lattice, meet, join, top}
 use Rattle.lattice.specs.Bounds.{Ordered}
-use Rattle.lattice.specs.Faults.{irreflexive, twinned, passes, gapped, unbounded, joinless, at_row, or_else, order_fault}
+use Rattle.lattice.specs.Faults.{irreflexive, twinned, passes, gapped, unbounded, joinless, at_row, or_else, order_fault, answer}
 use Rattle.refusals.specs.declared.refusal.Refusal.{Refusal}
 use Rattle.refusals.specs.declared.refusal.Reason.{Reason}
 use Rattle.refusals.specs.declared.refusal.Reason.TheVariants.{NotReflexive, NotAntisymmetric, NotTransitive, NotBounded, NoJoin}
@@ -250,3 +250,18 @@ stop why x i next e = ap (λ z. or_else (at_row why z) next) (sym e)
 
 pub last_row : (why : Reason) (x : Option ℕ) (i : ℕ) → Some i ≡ x → at_row why x ≡ Some (record { reason = why; place = i })
 last_row why x i e = ap (at_row why) (sym e)
+
+-- the same of the answers: a test that found nothing passes on, and one that refused is the answer
+pub answer_none : (x : Option Refusal) → Ok tt ≡ answer x → x ≡ None
+answer_none None e = refl
+answer_none (Some f) e = let z : ◌≡◌ {A = ℕ} 0 1 = cc in absurd (omega arith)
+
+pub found_none : (why : Reason) (x : Option ℕ) → Ok tt ≡ answer (at_row why x) → x ≡ None
+found_none why x e = at_row_none why x (answer_none (at_row why x) e)
+
+pub pass_on : (why : Reason) (x : Option ℕ) (next : Option Refusal) → Ok tt ≡ answer (at_row why x) → answer next ≡ answer (or_else (at_row why x) next)
+pass_on why x next e = ap answer (sym (skip why x next (sym (found_none why x e))))
+
+pub refuse_here : (why : Reason) (x : Option ℕ) (next : Option Refusal) (f : Refusal) → Err f ≡ answer (at_row why x) → Err f ≡ answer (or_else (at_row why x) next)
+refuse_here why None next f e = let z : ◌≡◌ {A = ℕ} 0 1 = cc in absurd (omega arith)
+refuse_here why (Some i) next f e = e

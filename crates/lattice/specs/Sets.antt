@@ -1,5 +1,6 @@
 -- Sets of values as numbers: bit v of the number says that value v is in the set. Assumes nothing.
-use Rattle.std.specs.Prelude.{ℕ, zero, suc, ◌+◌, ◌-◌, ◌/◌, ◌%◌, ◌^◌, Bool, true, false, cond, not, ◌&&◌, ◌||◌, Some, None, Option, ◌==◌, nat_lt}
+use Rattle.std.specs.Prelude.{ℕ, zero, suc, ◌+◌, ◌-◌, ◌/◌, ◌%◌, ◌^◌, Bool, true, false, cond, not, ◌&&◌, ◌||◌, Some, None, Option, ◌==◌, nat_lt, List}
+use Rattle.std.specs.List.{filter, range_with_len}
 
 -- value v is in the set s
 unfoldable pub has : ℕ → ℕ → Bool
@@ -15,6 +16,10 @@ without s v = cond (has s v) (s - 2 ^ v) s
 -- s with v in it where a set can have v: no set has a value at or above 64
 abbrev pub inserted : ℕ → ℕ → ℕ
 inserted s v = cond (nat_lt v 64) (with s v) s
+
+-- the values of s, rising
+unfoldable pub values_of : ℕ → List ℕ
+values_of s = filter (has s) (range_with_len 0 64)
 
 -- the test p holds of every number below n; of some number below n
 unfoldable pub every : (ℕ → Bool) → ℕ → Bool

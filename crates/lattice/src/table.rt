@@ -1,99 +1,98 @@
 //! A lattice given by its rows: row i has bit j where value i is at or below value j.
-ghost use Rattle.std.specs.Prelude.{◌≡◌, ℕ, ◌^◌, ◌<◌, ◌≤◌, length, take, is_ok, Decides, MatchResult, slice_index};
+ghost use Rattle.std.specs.Prelude.{◌≡◌, ℕ, None, Some, length, is_ok, Decides, MatchResult};
 ghost use Rattle.lattice.specs.Order.{Lattice as Laws, table, ladder};
 ghost use Rattle.lattice.specs.Faults.{Clean, fault, answer};
 ghost use Rattle.lattice.specs.Tables.{table_back};
 
-use crate::bitset::contains;
-use crate::{Lattice, rows};
+use crate::Lattice;
+use crate::rows::{self, Rows};
+use arrayvec::ArrayVec;
 use refusals::Refusal;
 
 #[derive(Drop)]
 pub struct Table {
-    rows: [u64; 64],
-    size: u8,
-    // The rows past the size count for nothing.
-    ghost small: { size ≤ 64 },
-    // No row has a bit at or above the size.
-    ghost clean: { (i : ℕ) → i < size → slice_index rows i < 2 ^ size },
-    // The first `size` rows are a lattice.
-    ghost lawful: { ∥ Laws (table (take size rows)) ∥₁ },
+    rows: ArrayVec<u64, 64>,
+    // No row has a bit at or above the row count.
+    ghost clean: { Clean rows.items },
+    // The rows are a lattice.
+    ghost lawful: { ∥ Laws (table rows.items) ∥₁ },
 }
 
 impl Table {
     // The ladder of two levels.
     pub fn new() -> Table
-        ensures size { result.size ≡ 2 }
-        ensures below { (a b : ℕ) → (table (take result.size result.rows)).below a b ≡ (ladder 2).below a b }
+        ensures size { length result.rows.items ≡ 2 }
+        ensures below { (a b : ℕ) → (table result.rows.items).below a b ≡ (ladder 2).below a b }
     {
-        let mut rows = [0u64; 64];
-        rows[0] = 0b11;
-        rows[1] = 0b10;
-        Table { rows, size: 2 }
+        let mut rows = ArrayVec::new();
+        rows.push(0b11);
+        rows.push(0b10);
+        Table { rows }
     }
 
     // Takes the rows where they are a lattice. Refused rows leave the table as it was.
     pub fn read(&mut self, rows: &[u64]) -> Result<(), Refusal>
         ensures value { result ≡ answer (fault rows.now) }
         ensures accepted { Decides (is_ok result) (Clean rows.now × Laws (table rows.now)) }
-        ensures after { MatchResult result (λ _. (self.new.size ≡ length rows.now) × (take self.new.size self.new.rows ≡ rows.now)) (λ _. self.new ≡ self.old) }
+        ensures after { MatchResult result (λ _. self.new.rows.items ≡ rows.now) (λ _. self.new ≡ self.old) }
     {
-        if let Some(refusal) = rows::refusal(rows) {
-            return Err(refusal);
-        }
-        let mut stored = [0u64; 64];
-        for (i, row) in rows.iter().enumerate() {
-            stored[i] = *row;
-        }
-        *self = Table {
-            rows: stored,
-            size: rows.len() as u8,
-        };
+        *self = Table::try_from(rows)?;
         Ok(())
+    }
+
+    // The rows as they are searched.
+    fn rows(&self) -> Rows<'_>
+        ensures { result.rows.now ≡ self.now.rows.items }
+    {
+        Rows {
+            rows: self.rows.as_slice(),
+        }
+    }
+}
+
+// The table of these rows, where they are a lattice.
+impl TryFrom<&[u64]> for Table {
+    type Error = Refusal;
+
+    ghost try_from_gives = { λ rows made. MatchResult made (λ t. (t.rows.items ≡ rows.now) × (fault rows.now ≡ None)) (λ why. fault rows.now ≡ Some why) };
+
+    fn try_from(rows: &[u64]) -> Result<Table, Refusal> {
+        rows::check(rows)?;
+        Ok(Table {
+            rows: ArrayVec::try_from(rows).unwrap(),
+        })
     }
 }
 
 impl Lattice for Table {
-    ghost order = { λ s. table (take s.size s.rows) };
+    ghost order = { λ s. table s.rows.items };
 
-    ghost lawful = { λ s. table_back (take s.size s.rows) s.lawful };
+    ghost lawful = { λ s. table_back s.rows.items s.lawful };
 
     fn size(&self) -> u8 {
-        self.size
+        self.rows().size()
     }
 
     fn below(&self, a: u8, b: u8) -> bool {
-        if a >= self.size || b >= self.size {
-            return false;
-        }
-        contains(self.rows[a as usize], b)
+        self.rows().below(a, b)
     }
 
     // A lower bound gives way to each greater one, and the meet is greater than all others.
     fn meet(&self, a: u8, b: u8) -> Option<u8> {
-        if a >= self.size || b >= self.size {
+        let rows = self.rows();
+        if a >= rows.size() || b >= rows.size() {
             return None;
         }
-        let mut best = 0;
-        for x in 0..self.size {
-            let row = self.rows[x as usize];
-            let above = self.rows[best as usize];
-            if contains(row, a) & contains(row, b) & contains(above, x) {
-                best = x;
+        Some((0..rows.size()).fold(0, |best, x| {
+            if rows.below(x, a) & rows.below(x, b) & rows.below(best, x) {
+                x
+            } else {
+                best
             }
-        }
-        Some(best)
+        }))
     }
 
-    // The join has the row that the rows of both share.
     fn join(&self, a: u8, b: u8) -> Option<u8> {
-        if a >= self.size || b >= self.size {
-            return None;
-        }
-        let shared = self.rows[a as usize] & self.rows[b as usize];
-        match rows::row_index(&self.rows[0..self.size as usize], shared) {
-            Some(i) => Some(i as u8),
-            None => None,
-        }
+        self.rows().join(a, b)
     }
 }

@@ -1,23 +1,37 @@
-use Rattle.std.proofs.Common.{sym, refl, ap, ◌∙◌, arith}
-use Rattle.std.proofs.lemmas.Bool.{le-leb}
+use Rattle.std.proofs.Common.{ℕ, List, length, take, drop, ◌++◌, sym, ap, ap₂, ◌∙◌, arith}
+use Rattle.std.proofs.lemmas.Bool.{le-leb, lt-leb, cond-false}
 use Rattle.lattice.specs.Order.{Order, table}
-use Rattle.choice.proofs.Written.{rows_start, rows_turn, rows_end, rows_order}
+use Rattle.choice.proofs.Written.{rows_fit, rows_taken, rows_length, rows_order}
 use Rattle.choice.proofs.tabulate.write_rows.Goals as goal
 
-pub loop-i-init : goal.loop-i-init
-loop-i-init g c = (rows_start (g.L.Lattice.order c.args.lattice.now), refl)
-
-pub loop-i-preserved : goal.loop-i-preserved
-loop-i-preserved g c =
-    rows_turn (g.L.Lattice.order c.args.lattice.now) c.loop-i.rows c.args.rows.now c.loop-i.i c.row_of.result
-    (omega arith) c.row_of.ensures c.loop-i.invariant
-
-pub returns : goal.returns
-returns g c =
+pub returns-then-rows-len-clause-value : goal.returns-then-rows-len-clause-value
+returns-then-rows-len-clause-value g c =
     let o : Order = g.L.Lattice.order c.args.lattice.now in
-    let w = rows_end o c.loop-i.rows c.args.rows.now c.loop-i.i (omega arith) (omega arith) c.loop-i.invariant in
-    record {
-      value = sym (le-leb _ _ (omega arith));
-      written = w.0;
-      same = λ _. ap table w.1 ∙ rows_order o (g.met.L.Lattice.lawful c.args.lattice.now);
-    }
+    sym (lt-leb _ _ (omega (arith, ap length c.rows_of-own.ensures, rows_length o o.size)))
+
+pub returns-then-rows-len-clause-written : goal.returns-then-rows-len-clause-written
+returns-then-rows-len-clause-written g c =
+    let o : Order = g.L.Lattice.order c.args.lattice.now in
+    sym (cond-false _ _ _ (lt-leb o.size (length c.args.rows.now) (omega (arith, ap length c.rows_of-own.ensures, rows_length o o.size))))
+
+pub returns-clause-value : goal.returns-clause-value
+returns-clause-value g c =
+    let o : Order = g.L.Lattice.order c.args.lattice.now in
+    sym (le-leb _ _ (omega (arith, ap length c.rows_of-own.ensures, rows_length o o.size)))
+
+pub returns-clause-written : goal.returns-clause-written
+returns-clause-written g c =
+    let o : Order = g.L.Lattice.order c.args.lattice.now in
+    let copied = c.copy_from_slice.ensures.after ∙ c.as_slice.ensures.value ∙ c.rows_of-own.ensures in
+    let count = c.len-2.ensures.value ∙ ap length c.rows_of-own.ensures ∙ rows_length o o.size in
+    ap₂ (λ (xs : List ℕ) (n : ℕ). xs ++ drop n c.args.rows.now) copied count
+    ∙ sym (rows_fit o c.args.rows.now (omega (arith, ap length c.rows_of-own.ensures, rows_length o o.size)))
+
+pub returns-clause-same : goal.returns-clause-same
+returns-clause-same g c =
+    let o : Order = g.L.Lattice.order c.args.lattice.now in
+    let copied = c.copy_from_slice.ensures.after ∙ c.as_slice.ensures.value ∙ c.rows_of-own.ensures in
+    let count = c.len-2.ensures.value ∙ ap length c.rows_of-own.ensures ∙ rows_length o o.size in
+    ap (λ (xs : List ℕ). table (take o.size xs)) (ap₂ (λ (xs : List ℕ) (n : ℕ). xs ++ drop n c.args.rows.now) copied count)
+    ∙ ap table (rows_taken o c.args.rows.now)
+    ∙ rows_order o (g.met.L.Lattice.lawful c.args.lattice.now)

@@ -1,8 +1,0 @@
-use Rattle.std.proofs.Common.{◌≡◌, None}
-use Rattle.lattice.specs.Sets.{least}
-use Rattle.lattice.specs.Order.{table}
-use Rattle.lattice.specs.Faults.{joinless}
-use Rattle.lattice.proofs.rows.first_joinless.Given as goal
-
-abbrev pub invariant-loop-i : goal.invariant-loop-i
-invariant-loop-i l = least (joinless (table l.rows)) l.i ≡ None
