@@ -3,19 +3,18 @@ use Rattle.std.proofs.Common.{◌≡◌, ℕ, zero, suc, ◌^◌, ◌<◌, ◌�
 use Rattle.std.proofs.lemmas.Bool.{true≢false}
 use Rattle.lattice.specs.Sets.{has, with, without, every, some_below, least, all_of, some_of, gather, image}
 use Rattle.lattice.specs.Order.{is_meet, is_join, meet, join}
-use Rattle.refusals.specs.declared.refusal.Reason.TheVariants.{ShortPiece}
 use Rattle.lattice.proofs.Members.{has_empty}
 use Rattle.policy.specs.declared.label.Label.{Label}
 use Rattle.policy.specs.Clauses.{Clause, allow, deny, none, more, covered_in, overlap, narrowed_in, evidence}
 use Rattle.policy.specs.Policies.{Spells}
 use Rattle.policy.specs.Words.{values_below, spelled, Written}
 use Rattle.policy.proofs.Exact.{spelled_once}
-use Rattle.ledger.specs.Ledger.{Ledger, Node, Flow, Call, path, node_at, flow_at, carried, IsFlowPath, Brought, Shortest}
-use Rattle.ledger.specs.Run.{Answer, Answered, LabelOf, refused, shown}
+use Rattle.ledger.specs.Ledger.{Ledger, Node, Flow, node_at, flow_at, carried, IsFlowPath, Brought, Shortest}
+use Rattle.ledger.specs.Run.{LabelOf}
 use Rattle.ledger.specs.Labelling.{Carries, Closed, Apart}
 use Rattle.ledger.proofs.Labellings.{closed_labellings_are_labels, near_paths_are_shortest}
 use Rattle.ledger.proofs.Ranges.{has_below}
-use Rattle.examples.specs.Worked.{sizes, adverts_words, together_words, cycle, cycle_verified, WorkedExamples}
+use Rattle.examples.specs.Worked.{sizes, adverts_words, together_words, WorkedExamples}
 
 -- naming this one unfolds what an example computes with
 unfoldable computing : Unit {0}
@@ -67,14 +66,6 @@ plain b = record {
   flows = flow 0 1 0 ∷ flow 1 2 1 ∷ flow 2 1 0 ∷ [];
   settled = true;
 }
-
-cycle_plain : cycle ≡ plain false
-unfolding has with every
-cycle_plain = refl
-
-verified_plain : cycle_verified ≡ plain true
-unfolding has with every
-verified_plain = refl
 
 -- ---- the values of a small set
 
@@ -177,14 +168,6 @@ label_apart = record { marks = marks; flows = flows }
     flows (suc (suc zero)) v ways h = only_one (λ v. far 1 (carried (plain false) 0 v) ≤ suc (far 2 v)) (lit≤ tt) v h
     flows (suc (suc (suc f))) v ways h = absurd (omega (arith, ways.0))
 
-coarse_comes_back : Shortest cycle (0 ∷ 1 ∷ 2 ∷ []) 1 1
-coarse_comes_back = subst (λ (L : Ledger). Shortest L (0 ∷ 1 ∷ 2 ∷ []) 1 1) (sym cycle_plain)
-    (near_paths_are_shortest (plain false) label far label_closed label_apart (0 ∷ 1 ∷ 2 ∷ []) 1 1 path_1_1 (lit≤ tt))
-
--- what is asked of an answer is the same of the ledger written out
-answered_plain : (c : Call) (answer : Answer) → Answered (plain false) c answer → Answered cycle c answer
-answered_plain c answer h = subst (λ (L : Ledger). Answered L c answer) (sym cycle_plain) h
-
 shortest_plain : Shortest (plain false) (0 ∷ 1 ∷ 2 ∷ []) 1 1
 shortest_plain = near_paths_are_shortest (plain false) label far label_closed label_apart (0 ∷ 1 ∷ 2 ∷ []) 1 1 path_1_1 (lit≤ tt)
 
@@ -245,13 +228,13 @@ worked_examples = record {
   identity_together_with_turns_is_refused = record { clause = together; spelt = together_spelt; verdict = refl; decided = refl; rests = refl };
   one_value_above_both_is_evidence_enough = record { clause = together; spelt = together_spelt; verdict = refl; decided = refl; rests = refl };
   no_data_passes = record { clause = together; spelt = together_spelt; verdict = refl; decided = refl; rests = refl };
-  the_mark_stays_at_the_first_node = subst (λ (L : Ledger). LabelOf L 0 4) (sym cycle_plain) (plain_label 0);
-  the_second_node_has_full_and_coarse_identity = subst (λ (L : Ledger). LabelOf L 1 6) (sym cycle_plain) (plain_label 1);
-  the_third_node_has_coarse_identity = subst (λ (L : Ledger). LabelOf L 2 2) (sym cycle_plain) (plain_label 2);
-  verified_the_first_node_has_its_mark = subst (λ (L : Ledger). LabelOf L 0 4) (sym verified_plain) (plain_verified_label 0);
-  verified_nothing_comes_back_to_the_second_node = subst (λ (L : Ledger). LabelOf L 1 4) (sym verified_plain) (plain_verified_label 1);
-  verified_nothing_comes_to_the_third_node = subst (λ (L : Ledger). LabelOf L 2 0) (sym verified_plain) (plain_verified_label 2);
-  coarse_identity_comes_back_by_three_flows = coarse_comes_back;
-  a_piece_of_three_shows_them = answered_plain (path 1 1 3) (shown (0 ∷ 1 ∷ 2 ∷ [])) (inr (0 ∷ 1 ∷ 2 ∷ [], shortest_plain, inr (lit≤ tt, refl)));
-  a_piece_of_two_is_too_short = answered_plain (path 1 1 2) (refused (record { reason = ShortPiece; place = 0 })) (inr (0 ∷ 1 ∷ 2 ∷ [], shortest_plain, inl (lit< tt, refl)));
+  the_mark_stays_at_the_first_node = plain_label 0;
+  the_second_node_has_full_and_coarse_identity = plain_label 1;
+  the_third_node_has_coarse_identity = plain_label 2;
+  verified_the_first_node_has_its_mark = plain_verified_label 0;
+  verified_nothing_comes_back_to_the_second_node = plain_verified_label 1;
+  verified_nothing_comes_to_the_third_node = plain_verified_label 2;
+  coarse_identity_comes_back_by_three_flows = shortest_plain;
+  a_piece_of_three_shows_them = inr (0 ∷ 1 ∷ 2 ∷ [], shortest_plain, inr (lit≤ tt, refl));
+  a_piece_of_two_is_too_short = inr (0 ∷ 1 ∷ 2 ∷ [], shortest_plain, inl (lit< tt, refl));
 }
