@@ -187,11 +187,16 @@ fn show_size(rt: &impl Print, size: u8) -> anyhow::Result<()> {
     Ok(())
 }
 
-/// Rooms and sizes at the making.
-pub fn show_rooms(rt: &impl Print) -> anyhow::Result<()> {
+/// Sizes at the making.
+pub fn show_sizes(rt: &impl Print) -> anyhow::Result<()> {
     for size in [0u8, 1, 2, 3, 64, 65] {
         show_size(rt, size)?;
     }
+    Ok(())
+}
+
+/// Rooms at the making.
+pub fn show_rooms(rt: &impl Print) -> anyhow::Result<()> {
     for words in [127usize, 128, 255, 256, 512] {
         println!(rt; "{words} words: room for {} nodes", room(words))?;
     }

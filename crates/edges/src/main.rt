@@ -11,6 +11,7 @@ mod words;
 fn main(rt: HostRuntime) -> anyhow::Result<()> {
     lattices::show(&rt)?;
     words::show(&rt)?;
+    calls::show_sizes(&rt)?;
     calls::show_rooms(&rt)?;
     calls::show_refusals(&rt)?;
     calls::show_steps(&rt)

@@ -130,8 +130,7 @@ pub const THURSDAY: [Request; 6] = [
 
 /// On Friday the paths of what the readers' job was refused for are asked for; then the profiles reach it by region alone.
 pub fn friday(heap: Global, evidence: u64) -> Result<Vec<Request>, AllocError> {
-    let mut requests: Vec<Request> = (0..64u8)
-        .filter(|value| bitset::contains(evidence, *value))
+    let mut requests: Vec<Request> = bitset::values(evidence)
         .map(|value| Request::Path(Node::Reader, value))
         .collect(heap)?;
     requests.extend_from_slice(&[
