@@ -1,6 +1,6 @@
 -- What `position`, `any` and `find` answer, in the words of the sets. Assumes nothing.
-use Rattle.std.proofs.Common.{◌≡◌, ℕ, zero, suc, ◌<◌, ◌≤◌, Bool, true, false, ◌||◌, List, [], ◌∷◌, length, get_or, Option, None, Some, sym, refl, ap, ap₂, ◌∙◌, arith}
-use Rattle.std.specs.Prelude.{MatchBool, MatchOption}
+use Rattle.std.proofs.Common.{◌≡◌, ℕ, zero, suc, ◌<◌, ◌≤◌, Bool, true, false, ◌||◌, List, [], ◌∷◌, length, get_or, Option, None, Some, sym, refl, ap, ◌∙◌, arith}
+use Rattle.std.specs.Prelude.{MatchOption}
 use Rattle.std.specs.List.{range_with_len, list_any, fold, AllWithin, HoldsAt}
 use Rattle.std.specs.declared.ops.Range.{Range}
 use Rattle.std.specs.Iterator.{ChecksAny, FindsItem, FoldsItems, FindsPosition}
@@ -10,13 +10,13 @@ use denote.Ref.{Bor}
 use Rattle.std.specs.Slice.Iter.{iter_rest}
 use Rattle.std.proofs.iter.Yields.{fronts, nat_range_steps}
 use Rattle.std.proofs.lemmas.List.Folds.{list_any-append}
-use Rattle.std.proofs.lemmas.Iterator.{YieldsList-from_slice, YieldsList-from_range, IsFirst-from_position, cases_from_any, first_from_Range}
+use Rattle.std.proofs.lemmas.Iterator.{YieldsList-from_slice, YieldsList-from_range, IsFirst-from_position, first_from_Range}
 use Rattle.std.proofs.lemmas.List.Sums.{fold_push}
 use Rattle.std.proofs.lemmas.Fn.{fold_over}
 use Rattle.std.proofs.lemmas.Iterator.Search.{any_from_yields_List}
 use Rattle.lattice.specs.Sets.{some_below, least}
-use Rattle.lattice.specs.Tests.{from_true, from_false, is_true, is_false}
-use Rattle.lattice.specs.SetsLemmas.{some_found, found_some, least_is, least_is_none}
+use Rattle.lattice.specs.Tests.{from_true, from_false}
+use Rattle.lattice.specs.SetsLemmas.{least_is, least_is_none}
 use Rattle.lattice.specs.Faults.{AsksBelow}
 use Rattle.lattice.proofs.Values.{range_end}
 
@@ -42,28 +42,6 @@ position_least {f = f} {r = r} p xs u e ran acts =
         → MatchOption r ((k : ℕ) → k < length xs → p (get_or xs k 0) ≡ false) (λ i. (i < length xs) × (p (get_or xs i 0) ≡ true) × ((k : ℕ) → k < i → p (get_or xs k 0) ≡ false))
     at_zero None h = λ k lt. h k 0 (omega arith) lt
     at_zero (Some i) h = (h.0, h.1 0, λ k lt. h.2 k 0 (omega arith) lt)
-
--- `any` over the rows
-pub any_least : {F : Type 0} {g : Mut F (Bor ℕ × Unit {0}) Bool} {s : _} {f : F} {r : Bool} (p : ℕ → Bool) (xs : List ℕ) (u : _)
-    → iter_rest s ≡ xs → ChecksAny fronts g s f r u
-    → ((x : Bor ℕ) (b : Bool) (q : F) → Called g f (x, tt) b q → (q ≡ f) × (b ≡ p x.now))
-    → r ≡ some_below (λ k. p (get_or xs k 0)) (length xs)
-any_least {f = f} {r = r} p xs u e ran acts =
-    at_zero r (cases_from_any u f r (λ x. p x ≡ true) (λ x. p x ≡ false) ran (YieldsList-from_slice xs e)
-    (λ x q k. sym (acts x true q k).1) (λ x q k. let w = acts x false q k in (w.0, sym w.1)))
-  where
-    at_zero : (r : Bool)
-        → MatchBool r ((k : ℕ) × (k < length xs) × HoldsAt (λ x. p x ≡ true) xs k) (AllWithin (λ x. p x ≡ false) xs 0 (length xs))
-        → r ≡ some_below (λ k. p (get_or xs k 0)) (length xs)
-    at_zero true h = sym (is_true _ (found_some (λ k. p (get_or xs k 0)) (length xs) h.0 h.1 (from_true _ (h.2 0))))
-    at_zero false h =
-        sym (is_false _ (λ t. let w = some_found (λ k. p (get_or xs k 0)) (length xs) t in from_false _ (h w.0 0 (omega arith) w.1) w.2))
-
--- tests that agree below n
-pub some_same : (p q : ℕ → Bool) (n : ℕ) → ((k : ℕ) → k < n → p k ≡ q k) → some_below p n ≡ some_below q n
-unfolding some_below
-some_same p q zero same = refl
-some_same p q (suc n) same = ap₂ ◌||◌ (some_same p q n (λ k lt. same k (omega arith))) (same n (omega arith))
 
 any_range : (p : ℕ → Bool) (n : ℕ) → some_below p n ≡ list_any p (range_with_len 0 n)
 unfolding some_below

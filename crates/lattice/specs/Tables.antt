@@ -187,10 +187,6 @@ high_stray n row le fits high =
     found_some (λ j. nat_le n j && has row j) 64 (n + w.0) (omega arith)
     (and_T (nat_le n (n + w.0)) (has row (n + w.0)) (le→leb n (n + w.0) (omega arith)) (subst T (has_above row n w.0) w.2))
 
-pub stray_test : (n row : ℕ) → n ≤ 64 → row < 2 ^ 64 → stray_bits n row ≡ nat_le (2 ^ n) row
-stray_test n row le fits =
-    same_tests (stray_bits n row) (nat_le (2 ^ n) row) (λ t. le→leb (2 ^ n) row (stray_high n row t)) (λ t. high_stray n row le fits (leb→le (2 ^ n) row t))
-
 module _ (rows : List ℕ) where
   pub clean_none : Clean rows → least (stray rows) (length rows) ≡ None
   unfolding stray

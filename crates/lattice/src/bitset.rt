@@ -7,6 +7,7 @@ ghost use Rattle.lattice.specs.Sets.{has, inserted, without, values_of};
 use std::marker::Model;
 
 /// Whether `value` is in `set`.
+#[tactic(auto, using(crate::proofs::Masks::has_by_and, crate::proofs::Masks::has_past))]
 pub fn contains(set: u64, value: u8) -> bool
     ensures { result ≡ has set value }
 {
@@ -14,6 +15,7 @@ pub fn contains(set: u64, value: u8) -> bool
 }
 
 /// `set` with `value` in it, and `set` itself where no set can have the value.
+#[tactic(auto, using(crate::proofs::Masks::with_by_or))]
 pub fn insert(set: u64, value: u8) -> u64
     ensures { result ≡ inserted set value }
 {
@@ -21,6 +23,7 @@ pub fn insert(set: u64, value: u8) -> u64
 }
 
 /// `set` without `value`.
+#[tactic(auto, using(crate::proofs::Masks::without_by_and, crate::proofs::Masks::without_past))]
 pub fn remove(set: u64, value: u8) -> u64
     ensures { result ≡ without set value }
 {
@@ -28,6 +31,7 @@ pub fn remove(set: u64, value: u8) -> u64
 }
 
 /// The values of `set`, rising.
+#[tactic(auto, using(crate::proofs::Values::values_run))]
 pub fn values(set: u64) -> SetValues
     ensures left { result ≡ values_of set }
     ensures runs { YieldsInOrder (YieldsFirst {A = ℕ} (λ rest. rest)) (λ rest. rest) }

@@ -72,6 +72,7 @@ impl<'a> Rows<'a> {
     }
 
     /// Whether value i is at or below value j.
+    #[tactic(auto, using(crate::specs::Tables::clean_below))]
     pub(crate) fn below(&self, i: u8, j: u8) -> bool
         ensures { result ≡ (table self.now.rows.now).below i j }
     {
@@ -94,6 +95,7 @@ impl<'a> Rows<'a> {
     }
 
     /// Whether value i is not between value 0 and the last.
+    #[tactic(auto, unfolding(crate::specs::Faults::unbounded))]
     fn is_unbounded(&self, i: u8) -> bool
         ensures { result ≡ unbounded (table self.now.rows.now) i }
     {
