@@ -48,8 +48,8 @@ fn yes_or_no(word: &[u8]) -> Result<u64, Fault>
     Err(Fault::NotYesOrNo)
 }
 
-// The value that a word has as an argument of its kind: that of a name is 0, of yes 1 and of no 0. All are numbers, since the
-// rows of a table, the words of a policy and the entries of a step are taken as one list, as it stands.
+// The value that a word has as an argument of its kind: that of a name is 0, of yes 1 and of no 0.
+// All are numbers, since a table, a policy and a step take the rest of the list as it stands, with no entry to unwrap.
 fn value(kind: Kind, word: &[u8]) -> Result<u64, Fault>
     ensures { result ≡ value_of kind word.now }
 {
