@@ -80,6 +80,7 @@ impl Lattice for Choice {
           (table_back p.second.rows.items p.second.lawful)
     ] };
 
+    // Each method asks by a match which lattice was chosen: a value of a `dyn` type may not be handed out.
     fn size(&self) -> u8 {
         match self {
             Choice::Ladder(ladder) => ladder.size(),

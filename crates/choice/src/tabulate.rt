@@ -40,6 +40,7 @@ fn rows_of<L: Lattice>(lattice: &L) -> ArrayVec<u64, 64>
     ensures { result.items ≡ all_rows (L.order lattice.now) }
 {
     let mut rows = ArrayVec::new();
+    // A `collect` into an inline vector may fail, and a push where there is room cannot.
     for i in 0..lattice.size() {
         rows.push(row_of(lattice, i));
     }
