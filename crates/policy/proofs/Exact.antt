@@ -1,23 +1,17 @@
 -- The laws above the reader.
-use Rattle.std.proofs.Common.{◌≡◌, ℕ, ◌≤◌, Bool, true, false, cond, ◌||◌, T, eqb, ltb, List, [], ◌∷◌, length, Some, None, Ok, Err, Option, Result, sym, refl, ap, ◌∙◌, arith}
+use Rattle.std.proofs.Common.{◌≡◌, ℕ, ◌≤◌, Bool, true, false, cond, ◌||◌, eqb, ltb, List, [], ◌∷◌, length, Some, None, Ok, Err, Option, Result, sym, refl, ap, ◌∙◌, arith}
 use Rattle.std.proofs.lemmas.Bool.{ltb-false, le-ltb, ne_eqb, or_parts, or_from}
+use Rattle.std.proofs.lemmas.Float.{T_from_true}
 use Rattle.lattice.specs.declared.sizes.Sizes.{Sizes}
 use Rattle.refusals.specs.declared.refusal.Reason.TheVariants.{WordCount}
 use Rattle.refusals.specs.declared.refusal.Refusal.{Refusal}
 use Rattle.policy.specs.Clauses.{Clause, Clauses, allow, deny, none, more}
 use Rattle.policy.specs.Words.{Small, Written, spelled, fault_from, words_fault, nothing_read, AcceptedExactly, SpelledOnce}
 use Rattle.policy.specs.Walk.{walk, empty}
+use Rattle.policy.proofs.Bounds.{true_from_T}
 use Rattle.policy.proofs.Grown.{Node, grown, Agrees, agrees}
 use Rattle.policy.proofs.Sound.{Spelt, sound}
 use Rattle.policy.proofs.Complete.{complete, node}
-
-T_from : (b : Bool) → b ≡ true → T b
-T_from true e = tt
-T_from false e = absurd (let z : ◌≡◌ {A = ℕ} 0 1 = cc in omega arith)
-
-T_to : (b : Bool) → T b → b ≡ true
-T_to true h = refl
-T_to false h = absurd h
 
 -- a walk without faults gives something
 walked : {X : Type 0} (o : Option Refusal) (r : Result X Refusal) → Agrees o r → o ≡ None → (x : X) × (r ≡ Ok x)
@@ -60,7 +54,7 @@ some_words (allow l es) = omega arith
 some_words (deny l es) = omega arith
 
 pub written_of : (z : Sizes) (ws : List ℕ) (out : List Node) (s : Spelt z ws out) → length ws ≤ 4096 → Written z s.clause
-written_of z ws out s h = (T_from _ s.well, s.deep, s.few, omega (arith, ap length s.words))
+written_of z ws out s h = (T_from_true _ s.well, s.deep, s.few, omega (arith, ap length s.words))
 
 pub accepted : (z : Sizes) → Small z → (ws : List ℕ) → words_fault z ws ≡ None → (c : Clause) × Written z c × (spelled c ≡ ws)
 accepted z small ws e =
@@ -70,7 +64,7 @@ accepted z small ws e =
 
 pub accepts : (z : Sizes) → Small z → (ws : List ℕ) → ((c : Clause) × Written z c × (spelled c ≡ ws)) → words_fault z ws ≡ None
 accepts z small ws (c, w, e) =
-    let d = complete z small c (T_to _ w.0) w.1 w.2 in
+    let d = complete z small c (true_from_T _ w.0) w.1 w.2 in
     let none_here : fault_from z nothing_read 0 (spelled c) ≡ None = clean (fault_from z nothing_read 0 (spelled c)) (walk grown z nothing_read (node empty none ∷ []) 0 (spelled c)) _ (agrees grown z (spelled c) nothing_read (node empty none ∷ []) 0) d in
     ap (words_fault z) (sym e) ∙ within z (spelled c) (some_words c) w.3 ∙ none_here
 
@@ -79,8 +73,8 @@ accepted_exactly z small ws = (accepted z small ws, accepts z small ws)
 
 pub spelled_once : SpelledOnce
 spelled_once z small c d w v e =
-    let p = complete z small c (T_to _ w.0) w.1 w.2 in
-    let q = complete z small d (T_to _ v.0) v.1 v.2 in
+    let p = complete z small c (true_from_T _ w.0) w.1 w.2 in
+    let q = complete z small d (true_from_T _ v.0) v.1 v.2 in
     let both : ◌≡◌ {A = Result (List Node) Refusal} (Ok (node empty (more c none) ∷ [])) (Ok (node empty (more d none) ∷ [])) = sym p ∙ ap (λ ws. walk grown z nothing_read (node empty none ∷ []) 0 ws) e ∙ q in
     let lists : node empty (more c none) ∷ [] ≡ node empty (more d none) ∷ [] = cc in
     let firsts = ap (λ ys. head_exceptions ys) lists in

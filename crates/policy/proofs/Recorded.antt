@@ -19,6 +19,7 @@ use Rattle.policy.specs.Walk.{walk, listed, fresh, closed, Slot, Records, record
 use Rattle.policy.specs.Records.{clause_of, record_at}
 use Rattle.policy.specs.Laid.{LaidClause, Laid}
 use Rattle.policy.proofs.Trees.{laid_same}
+use Rattle.policy.proofs.Sound.{count_snoc, count_of}
 use Rattle.policy.proofs.Grown.{Node, snoc, shut, grown, checked_parts, walk_on, walk_stop}
 
 mutual
@@ -34,10 +35,6 @@ meanings_snoc : (z : Sizes) (es : Clauses) (c : Clause) → meanings z (snoc es 
 meanings_snoc z none c = refl
 meanings_snoc z (more e es) c = ap (more (meaning z e)) (meanings_snoc z es c)
 
-count_snoc : (es : Clauses) (c : Clause) → clauses_count (snoc es c) ≡ clauses_count es + clause_count c
-count_snoc none c = omega arith
-count_snoc (more e es) c = omega (arith, count_snoc es c)
-
 laid_snoc : (rs : List ClauseRecord) (n m : ℕ) (es : Clauses) (c : Clause) → m ≡ n + clauses_count es → Laid rs n es → LaidClause rs m c → Laid rs n (snoc es c)
 laid_snoc rs n m none c e h k = (let p : m ≡ n = omega arith in subst (λ i. LaidClause rs i c) p k, tt)
 laid_snoc rs n m (more d ds) c e h k = (h.0, laid_snoc rs (n + clause_count d) m ds c (omega arith) h.1 k)
@@ -47,10 +44,6 @@ laid_of : (z : Sizes) (rs : List ClauseRecord) (n e : ℕ) (k : Kind) (l : Label
     → Laid rs (n + 1) (meanings z es) → LaidClause rs n (meaning z (clause_of k l es))
 laid_of z rs n e Allow l es r q h = (r ∙ ap (λ m. record { kind = Allow; list = filled z l; end = m }) (q ∙ ap (λ m. n + 1 + m) (sym (count_meanings z es))), h)
 laid_of z rs n e Deny l es r q h = (r ∙ ap (λ m. record { kind = Deny; list = filled z l; end = m }) (q ∙ ap (λ m. n + 1 + m) (sym (count_meanings z es))), h)
-
-count_of : (k : Kind) (l : Label) (es : Clauses) → clause_count (clause_of k l es) ≡ 1 + clauses_count es
-count_of Allow l es = refl
-count_of Deny l es = refl
 
 -- an open clause's record, with the exceptions read so far in the records after its number, up to number n
 pub record Held (z : Sizes) (f : Frame) (y : Node) (s : Slot) (n : ℕ) (rs : List ClauseRecord) : Type 0 where

@@ -106,7 +106,7 @@ part_snoc Excepting (more e es) c w h = absurd (let z : ◌≡◌ {A = ℕ} 0 1 
 part_snoc Excepted none c w h = absurd h
 part_snoc Excepted (more e es) c w h = ap (λ xs. EXCEPT ∷ xs) (ap (λ xs. spelled e ++ xs) (spelled_snoc es c) ∙ sym (append_assoc (spelled e) (spelled_rest es) (spelled c)))
 
-count_snoc : (es : Clauses) (c : Clause) → clauses_count (snoc es c) ≡ clauses_count es + clause_count c
+pub count_snoc : (es : Clauses) (c : Clause) → clauses_count (snoc es c) ≡ clauses_count es + clause_count c
 count_snoc none c = omega arith
 count_snoc (more e es) c = omega (arith, count_snoc es c)
 
