@@ -28,6 +28,15 @@ fn sets_are_bits(rt: HostRuntime) {
 }
 
 #[test]
+fn values_of_a_set_rise(rt: HostRuntime) -> Result<(), Fail> {
+    let some: Vec<u8> = bitset::values(0b10110).collect(rt.alloc())?;
+    assert_eq!(rt; some.as_slice(), [1, 2, 4].as_slice());
+    assert_eq!(rt; bitset::values(0).next(), None);
+    assert_eq!(rt; bitset::values(1 << 63).next(), Some(63));
+    Ok(())
+}
+
+#[test]
 fn ladders_have_the_order_of_numbers(rt: HostRuntime) -> Result<(), Fail> {
     let l = Ladder::new(6)?;
     assert_eq!(rt; l.size(), 6);
