@@ -1,5 +1,5 @@
 -- The walk over the values that one flow leads on.
-use Rattle.std.proofs.Common.{◌≡◌, ℕ, suc, ◌+◌, ◌-◌, ◌*◌, ◌/◌, ◌%◌, ◌^◌, ◌<◌, ◌≤◌, false, ◌≢◌, List, length, get_or, set, sym, refl, ap, ◌∙◌, subst, arith, shr-shr}
+use Rattle.std.proofs.Common.{◌≡◌, ℕ, suc, ◌+◌, ◌-◌, ◌*◌, ◌/◌, ◌%◌, ◌^◌, ◌<◌, ◌≤◌, false, ◌≢◌, List, length, get_or, set, sym, refl, ap, ◌∙◌, subst, w64, arith, shr-shr}
 use native.Mathlib.Decide.{dec_lt}
 use Rattle.flows.specs.declared.records.NodeRecord.{NodeRecord}
 use Rattle.flows.specs.declared.records.FlowRecord.{FlowRecord}
@@ -7,9 +7,10 @@ use Rattle.flows.specs.Graph.{graph, holds, no_node, no_flow, through, relabeled
 use Rattle.flows.specs.Certificate.{distance, Near}
 use Rattle.flows.specs.Rounds.{Spread, Led, Grown}
 use Rattle.std.proofs.lemmas.List.{length-set}
+use Rattle.std.proofs.lemmas.Nat.Bits.{bit_at-trailing_zeros}
 use lib.Pow.{shr_le}
 use lib.Count.{count_trailing_zeros}
-use Rattle.flows.proofs.Sets.{with_value, none_in, has_below, trailing_some, trailing_none}
+use Rattle.flows.proofs.Sets.{with_value, none_in, has_below}
 use Rattle.flows.proofs.Puts.{Put, label_new, put_made}
 use Rattle.flows.proofs.Spreads.{put_spread, led_kept, fitting_kept, grown_more, grown_put}
 
@@ -55,7 +56,7 @@ module _ (start ns : List NodeRecord) (fl : List FlowRecord) (rw' : List (List �
     lead_has : holds (get_or fresh (get_or fl number no_flow).«from» 0) (value + count_trailing_zeros 64 rest)
     lead_has =
         let there : value + count_trailing_zeros 64 rest - value ≡ count_trailing_zeros 64 rest = omega arith in
-        bit_left (value + count_trailing_zeros 64 rest) (omega arith) ∙ ap (λ k. rest / 2 ^ k % 2) there ∙ trailing_some 64 rest more small
+        bit_left (value + count_trailing_zeros 64 rest) (omega arith) ∙ ap (λ k. rest / 2 ^ k % 2) there ∙ (bit_at-trailing_zeros w64 rest more small).1
 
     pub lead_within : value + count_trailing_zeros 64 rest < 64
     lead_within = has_below _ _ 64 lead.fits lead_has
@@ -70,7 +71,7 @@ module _ (start ns : List NodeRecord) (fl : List FlowRecord) (rw' : List (List �
         go : (w : ℕ) → value ≤ w → w < value + count_trailing_zeros 64 rest + 1 → holds (get_or fresh (get_or fl number no_flow).«from» 0) w
             → through (graph ns fl rw' N F) number w ≢ 0 → Dec (w < value + count_trailing_zeros 64 rest)
             → Near (graph ns fl rw' N F) W (get_or fl number no_flow).to (through (graph ns fl rw' N F) number w) (suc d)
-        go w from_here lw h some (yes l) = absurd (omega (arith, trailing_none 64 rest (w - value) (omega arith), bit_left w from_here, h))
+        go w from_here lw h some (yes l) = absurd (omega (arith, (bit_at-trailing_zeros w64 rest more small).2 (w - value) (omega arith), bit_left w from_here, h))
         go w from_here lw h some (no l) =
             let is : value + count_trailing_zeros 64 rest ≡ w = omega arith in
             subst (λ u. holds (get_or fresh (get_or fl number no_flow).«from» 0) u → through (graph ns fl rw' N F) number u ≢ 0
@@ -129,7 +130,7 @@ module _ (start ns : List NodeRecord) (fl : List FlowRecord) (rw' : List (List �
         -- before the value is put, all below it are led on
         before : Led (graph ns fl rw' N F) W fresh d number (value + count_trailing_zeros 64 rest)
         before = led_further (value + count_trailing_zeros 64 rest)
-            (λ w from_here lw h some'. absurd (omega (arith, trailing_none 64 rest (w - value) (omega arith), bit_left w from_here, h)))
+            (λ w from_here lw h some'. absurd (omega (arith, (bit_at-trailing_zeros w64 rest more small).2 (w - value) (omega arith), bit_left w from_here, h)))
 
         go : (w : ℕ) → w < value + count_trailing_zeros 64 rest + 1 → holds (get_or fresh (get_or fl number no_flow).«from» 0) w
             → through (graph ns fl rw' N F) number w ≢ 0 → (get_or ns' (get_or fl number no_flow).to no_node).verified ≡ false → Dec (w < value + count_trailing_zeros 64 rest)
