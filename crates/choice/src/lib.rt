@@ -16,6 +16,7 @@ pub mod tabulate;
 
 pub use tabulate::{TooFewEntries, tabulated, write_rows};
 
+/// A lattice of a kind that is chosen at run time.
 #[derive(Drop)]
 pub enum Choice {
     Ladder(Ladder),
@@ -53,7 +54,7 @@ impl Choice {
         }))
     }
 
-    /// A second choice of the same order. A clone could fail for want of memory, and this cannot.
+    /// A second choice of the same order. A `clone` gives a `Result`, and this cannot fail.
     pub fn copied(&self) -> Choice
         ensures { choice_order result ≡ choice_order self.now }
     {

@@ -1,5 +1,6 @@
 //! The arguments of a command as the words of a line give them.
 ghost use Rattle.std.specs.Prelude.{◌≡◌, vec_items};
+ghost use Rattle.std.specs.Str.{bytes_eq};
 ghost use Rattle.lexer.specs.Words.{words_of};
 ghost use Rattle.commands.specs.Values.{value_of, values_of, kind_at, numeric};
 ghost use Rattle.commands.specs.Stops.{Gives};
@@ -36,13 +37,20 @@ fn set(word: &[u8]) -> Result<u64, Fault>
     })
 }
 
+/// Whether two words are the same.
+pub fn same(word: &[u8], other: &[u8]) -> bool
+    ensures { result ≡ bytes_eq word.now other.now }
+{
+    word == other
+}
+
 fn yes_or_no(word: &[u8]) -> Result<u64, Fault>
     ensures { result ≡ value_of Kind.YesOrNo word.now }
 {
-    if word == b"yes".as_slice() {
+    if same(word, b"yes") {
         return Ok(1);
     }
-    if word == b"no".as_slice() {
+    if same(word, b"no") {
         return Ok(0);
     }
     Err(Fault::NotYesOrNo)

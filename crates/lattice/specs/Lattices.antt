@@ -15,6 +15,9 @@ module _ (o : Order) (l : Ordered o) where
   pub joins_join : (a b j : ℕ) → Joins o a b j → join o a b ≡ Some j
   joins_join a b j h = join_opposite o a b ∙ orders.meets_meet (opposite o) (opposite_ordered l) a b j (joins_meets h)
 
+  pub joins_unique : (a b j k : ℕ) → Joins o a b j → Joins o a b k → j ≡ k
+  joins_unique a b j k h g = orders.meets_unique (opposite o) (opposite_ordered l) a b j k (joins_meets h) (joins_meets g)
+
   pub join_outside : (a b : ℕ) → ((a < o.size) → (b < o.size) → ⊥) → join o a b ≡ None
   join_outside a b out = join_opposite o a b ∙ orders.meet_outside (opposite o) (opposite_ordered l) a b out
 

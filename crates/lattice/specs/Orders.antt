@@ -69,7 +69,7 @@ module _ (o : Order) (l : Ordered o) where
       (k.greatest m h.below_left h.below_right)
       (h.greatest n k.below_left k.below_right)
 
-  -- the search finds exactly the greatest lower bound
+  -- `meet` finds exactly the greatest lower bound
   pub meet_meets : (a b m : ℕ) → meet o a b ≡ Some m → Meets o a b m
   unfolding meet
   meet_meets a b m e = test_meets a b m (least_some (is_meet o a b) o.size m e).1

@@ -421,6 +421,9 @@ pair_lattice p q l m =
 pub pair_fits : (p q : Order) → fits p q ≡ true → pair p q ≡ paired p q
 pair_fits p q e = cond-true (fits p q) (paired p q) (ladder 2) e
 
+pub pair_wide : (p q : Order) → fits p q ≡ false → pair p q ≡ ladder 2
+pair_wide p q e = cond-false (fits p q) (paired p q) (ladder 2) e
+
 module _ (p q : Order) (lp : Lattice p) (lq : Lattice q) where
   pub paired_below : (c d : ℕ) → c < pair_size p q → d < pair_size p q
       → (paired p q).below c d ≡ (p.below (left q c) (left q d) && q.below (right q c) (right q d))
@@ -496,6 +499,9 @@ module _ (p q : Order) (lp : Lattice p) (lq : Lattice q) (n : ℕ) (e : Some n �
 
   outside : (a b : ℕ) → ((a < n) → (b < n) → ⊥) → (a < pair_size p q) → (b < pair_size p q) → ⊥
   outside a b out h g = out (omega (arith, size_is)) (omega (arith, size_is))
+
+  pub pair_no_below : (a b : ℕ) → ((a < n) → (b < n) → ⊥) → false ≡ (pair p q).below a b
+  pair_no_below a b out = sym (ap (λ o. o.below a b) is_paired ∙ paired_no_below p q lp lq a b (outside a b out))
 
   pub pair_no_meet : (a b : ℕ) → ((a < n) → (b < n) → ⊥) → None ≡ meet (pair p q) a b
   pair_no_meet a b out = sym (ap (λ o. meet o a b) is_paired ∙ paired_no_meet p q lp lq a b (outside a b out))

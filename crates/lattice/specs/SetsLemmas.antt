@@ -96,6 +96,9 @@ least_is p n m lt h low =
           ]
     ]
 
+pub least_exists : (p : ℕ → Bool) (n k : ℕ) → k < n → T (p k) → (m : ℕ) × (least p n ≡ Some m)
+least_exists p n k lt h = elim (first p n) [ absent _ none ↦ absurd (none k lt h) | present w q _ _ _ ↦ (w, q) ]
+
 -- the only number that passes is the least
 pub least_only : (p : ℕ → Bool) (n m : ℕ) → m < n → T (p m) → ((k : ℕ) → T (p k) → k ≡ m) → least p n ≡ Some m
 least_only p n m lt h only = least_is p n m lt h (λ k l t. let e : k ≡ m = only k t in let z : ⊥ = omega arith in z)

@@ -74,6 +74,9 @@ module _ (rows : List ℕ) where
   pub clean_below : Clean rows → (a b : ℕ) → has (slice_index rows a) b ≡ (table rows).below a b
   clean_below clean a b = same_tests (has (slice_index rows a) b) ((table rows).below a b) (has_below clean a b) (table_has a b)
 
+  pub table_below : (a b : ℕ) → a < length rows → b < length rows → (table rows).below a b ≡ has (slice_index rows a) b
+  table_below a b p q = same_tests ((table rows).below a b) (has (slice_index rows a) b) (table_has a b) (has_table a b p q)
+
   pub table_back : ∥ Lattice (table rows) ∥₁ → Lattice (table rows)
   table_back = lattice_back (table rows) table_inside
 
@@ -186,6 +189,10 @@ high_stray n row le fits high =
     let lt : w.0 < 64 - n = w.1 in
     found_some (λ j. nat_le n j && has row j) 64 (n + w.0) (omega arith)
     (and_T (nat_le n (n + w.0)) (has row (n + w.0)) (le→leb n (n + w.0) (omega arith)) (subst T (has_above row n w.0) w.2))
+
+pub stray_test : (n row : ℕ) → n ≤ 64 → row < 2 ^ 64 → stray_bits n row ≡ nat_le (2 ^ n) row
+stray_test n row le fits =
+    same_tests (stray_bits n row) (nat_le (2 ^ n) row) (λ t. le→leb (2 ^ n) row (stray_high n row t)) (λ t. high_stray n row le fits (leb→le (2 ^ n) row t))
 
 module _ (rows : List ℕ) where
   pub clean_none : Clean rows → least (stray rows) (length rows) ≡ None

@@ -2,6 +2,7 @@
 ghost use Rattle.std.specs.Prelude.{◌≡◌, MatchOption, ◌≢◌};
 ghost use Rattle.lattice.specs.Attributes.{word_of, attribute_number};
 
+/// An attribute of a label.
 #[derive(Clone, Copy, PartialEq, Eq, Debug)]
 pub enum Attribute {
     InStore = 0,

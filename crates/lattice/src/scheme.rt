@@ -5,6 +5,7 @@ ghost use Rattle.lattice.specs.Schemes.{scheme_of, scheme_sizes};
 use crate::Lattice;
 use crate::sizes::Sizes;
 
+/// One lattice for each attribute.
 #[derive(Drop)]
 pub struct Scheme<S, P, R, T> {
     pub store: S,

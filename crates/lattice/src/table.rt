@@ -9,6 +9,7 @@ use crate::rows::{self, Rows};
 use arrayvec::ArrayVec;
 use refusals::Refusal;
 
+/// Rows that are a lattice.
 #[derive(Drop)]
 pub struct Table {
     rows: ArrayVec<u64, 64>,
@@ -19,7 +20,7 @@ pub struct Table {
 }
 
 impl Table {
-    // The ladder of two levels.
+    /// The ladder of two levels.
     pub fn new() -> Table
         ensures size { length result.rows.items ≡ 2 }
         ensures below { (a b : ℕ) → (table result.rows.items).below a b ≡ (ladder 2).below a b }
@@ -30,7 +31,7 @@ impl Table {
         Table { rows }
     }
 
-    // Takes the rows where they are a lattice. Refused rows leave the table as it was.
+    /// Takes the rows where they are a lattice. Refused rows leave the table as it was.
     pub fn read(&mut self, rows: &[u64]) -> Result<(), Refusal>
         ensures value { result ≡ answer (fault rows.now) }
         ensures accepted { Decides (is_ok result) (Clean rows.now × Laws (table rows.now)) }
