@@ -164,6 +164,11 @@ fault_outside heads End = Some MisplacedWord
 abbrev pub fault : Sizes → Reading → Word → Option Reason
 fault z r w = elim r.open_clauses [ [] ↦ fault_outside r.heads w | f ∷ fs ↦ fault_in z (length (f ∷ fs)) r.heads f.kind f.last f.phase w ]
 
+-- a test that passes where there is no fault, and fails with it where there is one
+abbrev pub clear : Option Reason → Result (Unit {0}) Reason
+clear None = Ok tt
+clear (Some e) = Err e
+
 -- the word, where there is one and it has no fault, or why it is declined
 abbrev pub checked : Option Word → (Word → Option Reason) → Result Word Reason
 checked None f = Err BadWord

@@ -1,7 +1,7 @@
 //! Why a word cannot stand where it does.
 ghost use Rattle.std.specs.Prelude.{◌≡◌, length};
 ghost use Rattle.policy.specs.Decode.{word_of};
-ghost use Rattle.policy.specs.Words.{size_of, position, checked, fault_in, head_fault, value_fault};
+ghost use Rattle.policy.specs.Words.{size_of, position, checked, clear, fault_in, head_fault, value_fault};
 
 use crate::clause::Kind;
 use crate::draft::{Draft, Open, Phase};
@@ -20,49 +20,49 @@ fn size_of(sizes: Sizes, attribute: u8) -> u8
     }
 }
 
-// Why a head is declined as an exception of a clause.
-fn head_fault(top: Open, heads: usize, kind: Kind, head: Kind) -> Option<Reason>
-    ensures { result ≡ head_fault top.depth heads kind head }
+// Whether a head can stand as an exception of a clause, or why it is declined.
+fn check_head(top: Open, heads: usize, kind: Kind, head: Kind) -> Result<(), Reason>
+    ensures { result ≡ clear (head_fault top.depth heads kind head) }
 {
     if kind == head {
-        Some(Reason::SameKind)
-    } else if top.depth >= 16 || heads >= 256 {
-        Some(Reason::TooNested)
-    } else {
-        None
+        return Err(Reason::SameKind);
     }
+    if top.depth >= 16 || heads >= 256 {
+        return Err(Reason::TooNested);
+    }
+    Ok(())
 }
 
-// Why a value is declined.
-fn value_fault(sizes: Sizes, last: (u8, u8), attribute: u8, value: u8) -> Option<Reason>
-    ensures { result ≡ value_fault sizes (position last.0 last.1) attribute value }
+// Whether a value can stand behind the last one, or why it is declined.
+fn check_value(sizes: Sizes, last: (u8, u8), attribute: u8, value: u8) -> Result<(), Reason>
+    ensures { result ≡ clear (value_fault sizes (position last.0 last.1) attribute value) }
 {
     if attribute >= 4 || value == 0 || value >= size_of(sizes, attribute) {
-        Some(Reason::BadValue)
-    } else if (attribute, value) <= last {
-        Some(Reason::NotRising)
-    } else {
-        None
+        return Err(Reason::BadValue);
     }
+    if (attribute, value) <= last {
+        return Err(Reason::NotRising);
+    }
+    Ok(())
 }
 
 impl Draft {
-    // Why a word is declined inside an open clause of this kind.
-    fn fault_in(&self, kind: Kind, top: Open, word: Word) -> Option<Reason>
-        ensures { result ≡ fault_in self.now.sizes top.depth (length self.now.clauses.items) kind (position top.last.0 top.last.1) top.phase word }
+    // Whether a word can stand inside an open clause of this kind, or why it is declined.
+    fn check_in(&self, kind: Kind, top: Open, word: Word) -> Result<(), Reason>
+        ensures { result ≡ clear (fault_in self.now.sizes top.depth (length self.now.clauses.items) kind (position top.last.0 top.last.1) top.phase word) }
     {
         match (word, top.phase) {
-            (Word::Value(attribute, value), Phase::Listing) => value_fault(
+            (Word::Value(attribute, value), Phase::Listing) => check_value(
                 self.sizes, top.last, attribute, value,
             ),
-            (Word::Head(head), Phase::Excepting | Phase::Excepted) => head_fault(
+            (Word::Head(head), Phase::Excepting | Phase::Excepted) => check_head(
                 top,
                 self.clauses.len(),
                 kind,
                 head,
             ),
-            (Word::Except, Phase::Listing) | (Word::End, Phase::Listing | Phase::Excepted) => None,
-            _ => Some(Reason::MisplacedWord),
+            (Word::Except, Phase::Listing) | (Word::End, Phase::Listing | Phase::Excepted) => Ok(()),
+            _ => Err(Reason::MisplacedWord),
         }
     }
 
@@ -71,9 +71,7 @@ impl Draft {
         ensures { result ≡ checked (word_of word) (fault_in self.now.sizes top.depth (length self.now.clauses.items) kind (position top.last.0 top.last.1) top.phase) }
     {
         let word = word_of(word).ok_or(Reason::BadWord)?;
-        match self.fault_in(kind, top, word) {
-            Some(reason) => Err(reason),
-            None => Ok(word),
-        }
+        self.check_in(kind, top, word)?;
+        Ok(word)
     }
 }
