@@ -61,9 +61,9 @@ module _ (d : Draft) (ws : List ℕ) (some : 1 ≤ length ws) (count : d.clauses
       by None n e = ap Err (sym e)
 
   module _ (k : Kind) (is : w ≡ Some (Head k)) where
-    begun_on : (left : ℕ) (e : Draft) (y : ClauseRecord) → Closes k (just_open 0) (numbered k d) (fresh k) (tail ws) left e y → Begins d ws left (stored e (length d.clauses.items) y)
+    begun_on : (left : ℕ) (e : Draft) (y : ClauseRecord) → Closes (just_open k 0) (numbered k d) (fresh k) (tail ws) left e y → Begins d ws left (stored e (length d.clauses.items) y)
     begun_on left e y h =
-        let c : Closes k (just_open 0) (numbered k d) (fresh k) (drop 1 ws) left e y = subst (λ q. Closes k (just_open 0) (numbered k d) (fresh k) q left e y) (tail_is ws) h in
+        let c : Closes (just_open k 0) (numbered k d) (fresh k) (drop 1 ws) left e y = subst (λ q. Closes (just_open k 0) (numbered k d) (fresh k) q left e y) (tail_is ws) h in
         let step = outside_head d ws some (omega arith) count k (sym ew ∙ is) in
         let n : length (drop 1 ws) ≡ length ws - 1 = length-drop 1 ws in
         let low : left < length (drop 1 ws) = c.shorter in
@@ -76,9 +76,9 @@ module _ (d : Draft) (ws : List ℕ) (some : 1 ≤ length ws) (count : d.clauses
           on = step ∙ c.on [] [] (length d.clauses.items) refl ∙ ap (λ u. goes (stored e (length d.clauses.items) y) [] [] u) (drop-drop (length (drop 1 ws) - left) 1 ws ∙ ap (λ j. drop j ws) m);
         }
 
-    begun_stops : (r : Refusal) → Stops k (just_open 0) (numbered k d) (fresh k) (tail ws) r → goes d [] [] ws ≡ Err r
+    begun_stops : (r : Refusal) → Stops (just_open k 0) (numbered k d) (fresh k) (tail ws) r → goes d [] [] ws ≡ Err r
     begun_stops r h =
-        let c : Stops k (just_open 0) (numbered k d) (fresh k) (drop 1 ws) r = subst (λ q. Stops k (just_open 0) (numbered k d) (fresh k) q r) (tail_is ws) h in
+        let c : Stops (just_open k 0) (numbered k d) (fresh k) (drop 1 ws) r = subst (λ q. Stops (just_open k 0) (numbered k d) (fresh k) q r) (tail_is ws) h in
         outside_head d ws some (omega arith) count k (sym ew ∙ is) ∙ c [] [] (length d.clauses.items) refl
 
     pub begun_behind : (r : Result ℕ Refusal) (e : Draft) → Behind k 0 d (tail ws) r e → Begun d ws r e

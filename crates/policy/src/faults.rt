@@ -21,10 +21,10 @@ fn size_of(sizes: Sizes, attribute: u8) -> u8
 }
 
 // Whether a head can stand as an exception of a clause, or why it is declined.
-fn check_head(top: Open, heads: usize, kind: Kind, head: Kind) -> Result<(), Reason>
-    ensures { result ≡ clear (head_fault top.depth heads kind head) }
+fn check_head(top: Open, heads: usize, head: Kind) -> Result<(), Reason>
+    ensures { result ≡ clear (head_fault top.depth heads top.kind head) }
 {
-    if kind == head {
+    if top.kind == head {
         return Err(Reason::SameKind);
     }
     if top.depth >= 16 || heads >= 256 {
@@ -47,9 +47,9 @@ fn check_value(sizes: Sizes, last: (u8, u8), attribute: u8, value: u8) -> Result
 }
 
 impl Draft {
-    // Whether a word can stand inside an open clause of this kind, or why it is declined.
-    fn check_in(&self, kind: Kind, top: Open, word: Word) -> Result<(), Reason>
-        ensures { result ≡ clear (fault_in self.now.sizes top.depth (length self.now.clauses.items) kind (position top.last.0 top.last.1) top.phase word) }
+    // Whether a word can stand inside an open clause, or why it is declined.
+    fn check_in(&self, top: Open, word: Word) -> Result<(), Reason>
+        ensures { result ≡ clear (fault_in self.now.sizes top.depth (length self.now.clauses.items) top.kind (position top.last.0 top.last.1) top.phase word) }
     {
         match (word, top.phase) {
             (Word::Value(attribute, value), Phase::Listing) => check_value(
@@ -58,20 +58,21 @@ impl Draft {
             (Word::Head(head), Phase::Excepting | Phase::Excepted) => check_head(
                 top,
                 self.clauses.len(),
-                kind,
                 head,
             ),
-            (Word::Except, Phase::Listing) | (Word::End, Phase::Listing | Phase::Excepted) => Ok(()),
+            (Word::Except, Phase::Listing) | (Word::End, Phase::Listing | Phase::Excepted) => Ok(
+                (),
+            ),
             _ => Err(Reason::MisplacedWord),
         }
     }
 
-    /// The word that a number says, or why it is declined inside an open clause of this kind.
-    pub(crate) fn admitted(&self, kind: Kind, top: Open, word: u32) -> Result<Word, Reason>
-        ensures { result ≡ checked (word_of word) (fault_in self.now.sizes top.depth (length self.now.clauses.items) kind (position top.last.0 top.last.1) top.phase) }
+    /// The word that a number says, or why it is declined inside an open clause.
+    pub(crate) fn admitted(&self, top: Open, word: u32) -> Result<Word, Reason>
+        ensures { result ≡ checked (word_of word) (fault_in self.now.sizes top.depth (length self.now.clauses.items) top.kind (position top.last.0 top.last.1) top.phase) }
     {
         let word = word_of(word).ok_or(Reason::BadWord)?;
-        self.check_in(kind, top, word)?;
+        self.check_in(top, word)?;
         Ok(word)
     }
 }

@@ -11,12 +11,13 @@ use arrayvec::ArrayVec;
 use lattice::{Reason, Refusal, Sizes};
 
 impl Open {
-    /// A clause whose head alone is read, inside `depth` others.
-    fn inside(depth: usize) -> Open
+    /// A clause of this kind whose head alone is read, inside `depth` others.
+    fn inside(kind: Kind, depth: usize) -> Open
         requires { depth ≤ 256 }
-        ensures { result ≡ just_open depth }
+        ensures { result ≡ just_open kind depth }
     {
         Open {
+            kind,
             phase: Phase::Listing,
             last: (0, 0),
             depth: depth + 1,
@@ -28,18 +29,18 @@ impl Draft {
     /// Reads a clause inside `depth` others from the word behind its head on. It has the next number.
     /// Says how many words are left after its END.
     fn read_behind(&mut self, kind: Kind, depth: usize, words: &[u32]) -> Result<usize, Refusal>
-        requires { Ready (just_open depth) (numbered kind self.old) words.now }
+        requires { Ready (just_open kind depth) (numbered kind self.old) words.now }
         ensures { Behind kind depth self.old words.now result self.new }
     {
         let number = self.clauses.len();
         let mut own = ClauseRecord::opened(kind);
         self.clauses.push(own);
-        let mut top = Open::inside(depth);
+        let mut top = Open::inside(kind, depth);
         let mut left = words;
         while let [first, rest @ ..] = left {
             let place = self.total - left.len();
             let word = self
-                .admitted(kind, top, *first)
+                .admitted(top, *first)
                 .map_err(|reason| reason.at(place))?;
             left = rest;
             match word {
