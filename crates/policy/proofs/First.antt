@@ -55,7 +55,7 @@ module _ (d : Draft) (ws : List ℕ) (some : 1 ≤ length ws) (count : d.clauses
     where
       by : (v : Option Word) → ((k : Kind) → v ≡ Some (Head k) → ⊥) → x ≡ stray_reason v → checked v (fault_outside (length d.clauses.items)) ≡ Err x
       by (Some (Head k)) n e = absurd (n k refl)
-      by (Some (Value a c)) n e = ap Err (sym e)
+      by (Some (Value v)) n e = ap Err (sym e)
       by (Some Except) n e = ap Err (sym e)
       by (Some End) n e = ap Err (sym e)
       by None n e = ap Err (sym e)
@@ -104,7 +104,7 @@ first_whole d e ws left b z =
 
 stray_fault : (n : ℕ) → 1 ≤ n → (w : Option Word) → checked w (fault_outside n) ≡ Err (stray_reason w)
 stray_fault n h (Some (Head k)) = ap (λ b. elim (cond b None (Some MisplacedWord)) [ Some y ↦ Err y | None ↦ Ok (Head k) ]) (ne_eqb n 0 (λ e. omega arith))
-stray_fault n h (Some (Value a c)) = refl
+stray_fault n h (Some (Value v)) = refl
 stray_fault n h (Some Except) = refl
 stray_fault n h (Some End) = refl
 stray_fault n h None = refl

@@ -13,8 +13,8 @@ use Rattle.refusals.specs.declared.refusal.Reason.{Reason}
 use Rattle.refusals.specs.declared.refusal.Reason.TheVariants.{MisplacedWord}
 use Rattle.refusals.specs.declared.refusal.Refusal.{Refusal}
 use Rattle.policy.specs.declared.word.Word.{Word}
-use Rattle.policy.specs.declared.word.Word.TheVariants.{Head, Value, Except, End}
-use Rattle.policy.specs.Decode.{word_of}
+use Rattle.policy.specs.declared.word.Word.TheVariants.{Head, Except, End}
+use Rattle.policy.specs.Decode.{value, word_of}
 use Rattle.policy.specs.Words.{Frame, position, Reading, checked, admitted, fault_in, advanced, ended}
 use Rattle.policy.specs.Walk.{walk, Slot, Records, recorded, fresh, with_value, closed}
 use Rattle.policy.specs.Reads.{Ready, frame_of, slot, goes, stored, numbered, just_open, Closes, Stops, Reads, Behind}
@@ -43,12 +43,12 @@ records d ss = record { opens = ss; clauses = d.clauses.items }
 
 -- the first of the words, as it is taken inside the open clause
 abbrev pub seen : Open → Draft → List ℕ → Result Word Reason
-seen o d ws = checked (word_of (get_or ws 0 0)) (fault_in d.sizes o.depth (length d.clauses.items) o.kind (position o.last.0 o.last.1) o.phase)
+seen o d ws = checked (word_of (get_or ws 0 0)) (fault_in d.sizes o.depth (length d.clauses.items) o.kind (position o.last.attribute o.last.code) o.phase)
 
 seen_as : (o : Open) (d : Draft) (w : ℕ) (ws : List ℕ) (fs : List Frame) → length fs + 1 ≡ o.depth → admitted d.sizes (reading o d fs) w ≡ seen o d (w ∷ ws)
 seen_as o d w ws fs el =
     let deep : suc (length fs) ≡ o.depth = omega arith in
-    ap (λ n. checked (word_of w) (fault_in d.sizes n (length d.clauses.items) o.kind (position o.last.0 o.last.1) o.phase)) deep
+    ap (λ n. checked (word_of w) (fault_in d.sizes n (length d.clauses.items) o.kind (position o.last.attribute o.last.code) o.phase)) deep
 
 -- the end of the words
 pub stops_none : (o : Open) (d : Draft) (x : ClauseRecord) (ws : List ℕ) → length ws < 1 → Stops o d x ws (record { reason = MisplacedWord; place = d.total - length ws })
@@ -109,15 +109,15 @@ module _ (o : Open) (d : Draft) (x : ClauseRecord) (ws : List ℕ) (some : 1 ≤
       later o (record { kind = o.kind; phase = Excepting; last = o.last; depth = o.depth }) d d x x ws 1 (omega arith) some (omega arith) refl refl refl (λ fs ss n el. on_by Except is fs (slot n x ∷ ss) el) r e y
       (subst (λ u. Reads (record { kind = o.kind; phase = Excepting; last = o.last; depth = o.depth }) d x u r e y) (tail_is ws) h)
 
-  at_value : (a v : ℕ) → w ≡ Value a v → (x' : ClauseRecord) → x' ≡ with_value a v x → (r : Result ℕ Refusal) (e : Draft) (y : ClauseRecord)
-      → Reads (record { kind = o.kind; phase = o.phase; last = (a, v); depth = o.depth }) d x' (tail ws) r e y
+  at_value : (a v : ℕ) → w ≡ value a v → (x' : ClauseRecord) → x' ≡ with_value a v x → (r : Result ℕ Refusal) (e : Draft) (y : ClauseRecord)
+      → Reads (record { kind = o.kind; phase = o.phase; last = record { attribute = a; code = v }; depth = o.depth }) d x' (tail ws) r e y
       → Reads o d x ws r e y
   at_value a v is x' ex r e y h =
-      let P : ClauseRecord → List ℕ → Type 0 = λ q u. Reads (record { kind = o.kind; phase = o.phase; last = (a, v); depth = o.depth }) d q u r e y in
+      let P : ClauseRecord → List ℕ → Type 0 = λ q u. Reads (record { kind = o.kind; phase = o.phase; last = record { attribute = a; code = v }; depth = o.depth }) d q u r e y in
       let h₁ : P (with_value a v x) (tail ws) = subst (λ q. P q (tail ws)) ex h in
       let h₂ : P (with_value a v x) (drop 1 ws) = subst (λ q. P (with_value a v x) q) (tail_is ws) h₁ in
-      later o (record { kind = o.kind; phase = o.phase; last = (a, v); depth = o.depth }) d d x (with_value a v x)
-      ws 1 (omega arith) some (omega arith) refl refl refl (λ fs ss n el. on_by (Value a v) is fs (slot n x ∷ ss) el) r e y h₂
+      later o (record { kind = o.kind; phase = o.phase; last = record { attribute = a; code = v }; depth = o.depth }) d d x (with_value a v x)
+      ws 1 (omega arith) some (omega arith) refl refl refl (λ fs ss n el. on_by (value a v) is fs (slot n x ∷ ss) el) r e y h₂
 
   at_end : w ≡ End → (y : ClauseRecord) → y ≡ closed d.sizes (length d.clauses.items) x → Closes o d x ws (length (tail ws)) d y
   at_end is y ey =
@@ -208,7 +208,7 @@ module _ (k : Kind) (depth : ℕ) (start : Draft) (all : List ℕ) (number : ℕ
         on = λ r e y h. a.on r e y (at_except o d x ws some a.ready w ew is r e y h);
       }
 
-      pub along_value : (v n : ℕ) → w ≡ Value v n → (x' : ClauseRecord) → x' ≡ with_value v n x → Along k depth start all number (record { kind = o.kind; phase = o.phase; last = (v, n); depth = o.depth }) d x' (tail ws)
+      pub along_value : (v n : ℕ) → w ≡ value v n → (x' : ClauseRecord) → x' ≡ with_value v n x → Along k depth start all number (record { kind = o.kind; phase = o.phase; last = record { attribute = v; code = n }; depth = o.depth }) d x' (tail ws)
       along_value v n is x' ex = record {
         ready = record { room = a.ready.room; deep = a.ready.deep; within = fewer; sized = a.ready.sized };
         given = a.given;

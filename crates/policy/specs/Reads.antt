@@ -21,7 +21,7 @@ pub record Ready (o : Open) (d : Draft) (ws : List ℕ) : Type 0 where
   pub sized : Sized d.sizes
 
 abbrev pub frame_of : Open → Frame
-frame_of o = record { kind = o.kind; phase = o.phase; last = position o.last.0 o.last.1 }
+frame_of o = record { kind = o.kind; phase = o.phase; last = position o.last.attribute o.last.code }
 
 abbrev pub slot : ℕ → ClauseRecord → Slot
 slot n x = record { number = n; filling = x }
@@ -60,7 +60,7 @@ Reads o d x ws (Err r) e y = Stops o d x ws r
 
 -- a clause whose head alone is read, inside `depth` others
 abbrev pub just_open : Kind → ℕ → Open
-just_open k depth = record { kind = k; phase = Listing; last = (0, 0); depth = depth + 1 }
+just_open k depth = record { kind = k; phase = Listing; last = record { attribute = 0; code = 0 }; depth = depth + 1 }
 
 -- a clause inside `depth` others is given the next number and read from the word behind its head on, and its record is stored
 abbrev pub Behind : Kind → ℕ → Draft → List ℕ → Result ℕ Refusal → Draft → Type 0

@@ -5,7 +5,7 @@ ghost use Rattle.policy.specs.Words.{size_of, position, checked, clear, fault_in
 
 use crate::clause::Kind;
 use crate::draft::{Draft, Open, Phase};
-use crate::word::{Word, word_of};
+use crate::word::{Value, Word, word_of};
 use lattice::{Reason, Sizes};
 
 // By number, not by `Attribute`: a word's number can be up to 15, and is refused as a value only where a value can stand.
@@ -34,13 +34,13 @@ fn check_head(top: Open, heads: usize, head: Kind) -> Result<(), Reason>
 }
 
 // Whether a value can stand behind the last one, or why it is declined.
-fn check_value(sizes: Sizes, last: (u8, u8), attribute: u8, value: u8) -> Result<(), Reason>
-    ensures { result ≡ clear (value_fault sizes (position last.0 last.1) attribute value) }
+fn check_value(sizes: Sizes, last: Value, value: Value) -> Result<(), Reason>
+    ensures { result ≡ clear (value_fault sizes (position last.attribute last.code) value.attribute value.code) }
 {
-    if attribute >= 4 || value == 0 || value >= size_of(sizes, attribute) {
+    if value.attribute >= 4 || value.code == 0 || value.code >= size_of(sizes, value.attribute) {
         return Err(Reason::BadValue);
     }
-    if (attribute, value) <= last {
+    if value <= last {
         return Err(Reason::NotRising);
     }
     Ok(())
@@ -49,27 +49,24 @@ fn check_value(sizes: Sizes, last: (u8, u8), attribute: u8, value: u8) -> Result
 impl Draft {
     // Whether a word can stand inside an open clause, or why it is declined.
     fn check_in(&self, top: Open, word: Word) -> Result<(), Reason>
-        ensures { result ≡ clear (fault_in self.now.sizes top.depth (length self.now.clauses.items) top.kind (position top.last.0 top.last.1) top.phase word) }
+        ensures { result ≡ clear (fault_in self.now.sizes top.depth (length self.now.clauses.items) top.kind (position top.last.attribute top.last.code) top.phase word) }
     {
         match (word, top.phase) {
-            (Word::Value(attribute, value), Phase::Listing) => check_value(
-                self.sizes, top.last, attribute, value,
-            ),
+            (Word::Value(value), Phase::Listing) => check_value(self.sizes, top.last, value),
             (Word::Head(head), Phase::Excepting | Phase::Excepted) => check_head(
                 top,
                 self.clauses.len(),
                 head,
             ),
-            (Word::Except, Phase::Listing) | (Word::End, Phase::Listing | Phase::Excepted) => Ok(
-                (),
-            ),
+            (Word::Except, Phase::Listing) => Ok(()),
+            (Word::End, Phase::Listing | Phase::Excepted) => Ok(()),
             _ => Err(Reason::MisplacedWord),
         }
     }
 
     /// The word that a number says, or why it is declined inside an open clause.
     pub(crate) fn admitted(&self, top: Open, word: u32) -> Result<Word, Reason>
-        ensures { result ≡ checked (word_of word) (fault_in self.now.sizes top.depth (length self.now.clauses.items) top.kind (position top.last.0 top.last.1) top.phase) }
+        ensures { result ≡ checked (word_of word) (fault_in self.now.sizes top.depth (length self.now.clauses.items) top.kind (position top.last.attribute top.last.code) top.phase) }
     {
         let word = word_of(word).ok_or(Reason::BadWord)?;
         self.check_in(top, word)?;

@@ -5,16 +5,17 @@ ghost use Rattle.policy.specs.Walk.{listed, with_value, closed, fresh};
 
 use crate::clause::{ClauseRecord, Kind};
 use crate::label::Label;
+use crate::word::Value;
 use lattice::Sizes;
 
 impl Label {
-    // Adds a value of an attribute, by its number as the words have it.
-    fn insert(&mut self, attribute: u8, value: u8)
-        requires { value < 64 }
-        ensures { self.new ≡ listed attribute value self.old }
+    // Adds a value of an attribute.
+    fn insert(&mut self, value: Value)
+        requires { value.code < 64 }
+        ensures { self.new ≡ listed value.attribute value.code self.old }
     {
-        let bit = 1u64 << value;
-        match attribute {
+        let bit = 1u64 << value.code;
+        match value.attribute {
             0 => self.store |= bit,
             1 => self.purpose |= bit,
             2 => self.role |= bit,
@@ -36,11 +37,11 @@ impl ClauseRecord {
     }
 
     /// Adds a value to the list.
-    pub(crate) fn insert(&mut self, attribute: u8, value: u8)
-        requires { value < 64 }
-        ensures { self.new ≡ with_value attribute value self.old }
+    pub(crate) fn insert(&mut self, value: Value)
+        requires { value.code < 64 }
+        ensures { self.new ≡ with_value value.attribute value.code self.old }
     {
-        self.list.insert(attribute, value);
+        self.list.insert(value);
     }
 
     /// Fills the list up and sets the end.

@@ -6,7 +6,7 @@ ghost use Rattle.policy.specs.Stands.{Drafted};
 
 use crate::clause::{ClauseRecord, Kind};
 use crate::draft::{Draft, Open, Phase};
-use crate::word::{Word, word_of};
+use crate::word::{Value, Word, word_of};
 use arrayvec::ArrayVec;
 use lattice::{Reason, Refusal, Sizes};
 
@@ -19,7 +19,10 @@ impl Open {
         Open {
             kind,
             phase: Phase::Listing,
-            last: (0, 0),
+            last: Value {
+                attribute: 0,
+                code: 0,
+            },
             depth: depth + 1,
         }
     }
@@ -49,9 +52,9 @@ impl Draft {
                     left = &rest[rest.len() - behind..];
                     top.phase = Phase::Excepted;
                 }
-                Word::Value(attribute, value) => {
-                    own.insert(attribute, value);
-                    top.last = (attribute, value);
+                Word::Value(value) => {
+                    own.insert(value);
+                    top.last = value;
                 }
                 Word::Except => top.phase = Phase::Excepting,
                 Word::End => {
