@@ -7,19 +7,20 @@ use crate::clause::{ClauseRecord, Kind};
 use crate::label::Label;
 use crate::word::Value;
 use lattice::Sizes;
+use lattice::bitset::insert;
 
 impl Label {
     // Adds a value of an attribute.
+    #[tactic(auto, using(crate::proofs::Values::inserted_by_or))]
     fn insert(&mut self, value: Value)
         requires { value.code < 64 }
         ensures { self.new ≡ listed value.attribute value.code self.old }
     {
-        let bit = 1u64 << value.code;
         match value.attribute {
-            0 => self.store |= bit,
-            1 => self.purpose |= bit,
-            2 => self.role |= bit,
-            _ => self.types |= bit,
+            0 => self.store = insert(self.store, value.code),
+            1 => self.purpose = insert(self.purpose, value.code),
+            2 => self.role = insert(self.role, value.code),
+            _ => self.types = insert(self.types, value.code),
         }
     }
 }
