@@ -11,10 +11,10 @@ use Rattle.policy.specs.declared.draft.Phase.{Phase}
 use Rattle.policy.specs.declared.draft.Phase.TheVariants.{Listing, Excepting, Excepted}
 use Rattle.refusals.specs.declared.refusal.Reason.TheVariants.{MisplacedWord, BadValue, NotRising, SameKind, TooNested}
 use Rattle.policy.specs.declared.word.Word.{Word}
-use Rattle.policy.specs.declared.word.Word.TheVariants.{Head, Value, Except, End}
+use Rattle.policy.specs.declared.word.Word.TheVariants.{Head, Except, End}
 use Rattle.lattice.specs.Sets.{has}
 use Rattle.policy.specs.Clauses.{Clause, Clauses, allow, deny, none, more, clause_count, clauses_count}
-use Rattle.policy.specs.Decode.{word_of}
+use Rattle.policy.specs.Decode.{value, word_of}
 use Rattle.policy.specs.Words.{Frame, Reading, fault, fault_in, head_fault, value_fault, same_kind, size_of, advanced, ended, opened, values_below, value_word, list_words, in_range, list_in_range, spelled, spelled_exceptions, spelled_rest, EXCEPT, END, well_formed, depth, depths, Small}
 use Rattle.policy.specs.Walk.{walk, listed, empty}
 use Rattle.policy.specs.Records.{clause_of}
@@ -25,7 +25,7 @@ use Rattle.policy.proofs.Grown.{Node, snoc, shut, grown, checked_on, walk_on}
 use Rattle.policy.proofs.Sound.{HEAD, other, others, Waits}
 
 -- the word of a value says that value
-pub decode_value : (a n : ℕ) → a < 4 → n < 64 → word_of (value_word a n) ≡ Some (Value a n)
+pub decode_value : (a n : ℕ) → a < 4 → n < 64 → word_of (value_word a n) ≡ Some (value a n)
 decode_value a n ha hn =
     let w = value_word a n in
     let q : w / 2 ^ 28 ≡ 3 = omega arith in
@@ -33,8 +33,8 @@ decode_value a n ha hn =
     let ea : (w / 2 ^ 24) % 2 ^ 4 ≡ a = omega arith in
     let en : w % 2 ^ 8 ≡ n = omega arith in
     let P : Word → Option Word = λ x. cond (eqb (w % 2 ^ 28) 0) (Some x) None in
-    let V : ℕ → ℕ → Option Word = λ q m. cond (eqb q 1) (P (Head Allow)) (cond (eqb q 2) (P (Head Deny)) (cond (eqb q 3) (cond (eqb m 0) (Some (Value ((w / 2 ^ 24) % 2 ^ 4) (w % 2 ^ 8))) None) (cond (eqb q 4) (P Except) (cond (eqb q 5) (P End) None)))) in
-    ap (λ q. V q ((w / 2 ^ 8) % 2 ^ 16)) q ∙ ap (λ m. V 3 m) m ∙ ap (λ b. Some (Value b (w % 2 ^ 8))) ea ∙ ap (λ n. Some (Value a n)) en
+    let V : ℕ → ℕ → Option Word = λ q m. cond (eqb q 1) (P (Head Allow)) (cond (eqb q 2) (P (Head Deny)) (cond (eqb q 3) (cond (eqb m 0) (Some (value ((w / 2 ^ 24) % 2 ^ 4) (w % 2 ^ 8))) None) (cond (eqb q 4) (P Except) (cond (eqb q 5) (P End) None)))) in
+    ap (λ q. V q ((w / 2 ^ 8) % 2 ^ 16)) q ∙ ap (λ m. V 3 m) m ∙ ap (λ b. Some (value b (w % 2 ^ 8))) ea ∙ ap (λ n. Some (value a n)) en
 
 -- the label with v as its set of attribute a
 abbrev pub put : ℕ → ℕ → Label → Label
@@ -133,7 +133,7 @@ module _ (z : Sizes) (small : Small z) where
         let words : values_below a s n ++ (value_word a n ∷ rest) ≡ (values_below a s n ++ cond (has s n) (value_word a n ∷ []) []) ++ rest =
         sym (append_assoc (values_below a s n) (value_word a n ∷ []) rest) ∙ ap (λ b. (values_below a s n ++ cond b (value_word a n ∷ []) []) ++ rest) (sym h) in
         let clean = clean_value t' a n ha v.0 v.1 (let b = ih.1 in let c = v.0 in omega arith) in
-        let step = one (reads (top k Listing t' ∷ fs) heads) (node (put a (s % 2 ^ n) l) es ∷ ys) (value_word a n) rest (Value a n) (decode_value a n ha (omega arith)) clean in
+        let step = one (reads (top k Listing t' ∷ fs) heads) (node (put a (s % 2 ^ n) l) es ∷ ys) (value_word a n) rest (value a n) (decode_value a n ha (omega arith)) clean in
         let made : listed a n (put a (s % 2 ^ n) l) ≡ put a (s % 2 ^ suc n) l = inserted_put a n (s % 2 ^ n) l ha ∙ ap (λ v. put a v l) (low_on s n h) in
         let all = then (reads (top k Listing t ∷ fs) heads) (reads (top k Listing t' ∷ fs) heads) (reads (top k Listing (a * 256 + n) ∷ fs) heads)
         (node (put a 0 l) es ∷ ys) (node (put a (s % 2 ^ n) l) es ∷ ys) (node (listed a n (put a (s % 2 ^ n) l)) es ∷ ys)

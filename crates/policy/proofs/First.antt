@@ -55,15 +55,15 @@ module _ (d : Draft) (ws : List ℕ) (some : 1 ≤ length ws) (count : d.clauses
     where
       by : (v : Option Word) → ((k : Kind) → v ≡ Some (Head k) → ⊥) → x ≡ stray_reason v → checked v (fault_outside (length d.clauses.items)) ≡ Err x
       by (Some (Head k)) n e = absurd (n k refl)
-      by (Some (Value a c)) n e = ap Err (sym e)
+      by (Some (Value v)) n e = ap Err (sym e)
       by (Some Except) n e = ap Err (sym e)
       by (Some End) n e = ap Err (sym e)
       by None n e = ap Err (sym e)
 
   module _ (k : Kind) (is : w ≡ Some (Head k)) where
-    begun_on : (left : ℕ) (e : Draft) (y : ClauseRecord) → Closes k (just_open 0) (numbered k d) (fresh k) (tail ws) left e y → Begins d ws left (stored e (length d.clauses.items) y)
+    begun_on : (left : ℕ) (e : Draft) (y : ClauseRecord) → Closes (just_open k 0) (numbered k d) (fresh k) (tail ws) left e y → Begins d ws left (stored e (length d.clauses.items) y)
     begun_on left e y h =
-        let c : Closes k (just_open 0) (numbered k d) (fresh k) (drop 1 ws) left e y = subst (λ q. Closes k (just_open 0) (numbered k d) (fresh k) q left e y) (tail_is ws) h in
+        let c : Closes (just_open k 0) (numbered k d) (fresh k) (drop 1 ws) left e y = subst (λ q. Closes (just_open k 0) (numbered k d) (fresh k) q left e y) (tail_is ws) h in
         let step = outside_head d ws some (omega arith) count k (sym ew ∙ is) in
         let n : length (drop 1 ws) ≡ length ws - 1 = length-drop 1 ws in
         let low : left < length (drop 1 ws) = c.shorter in
@@ -76,9 +76,9 @@ module _ (d : Draft) (ws : List ℕ) (some : 1 ≤ length ws) (count : d.clauses
           on = step ∙ c.on [] [] (length d.clauses.items) refl ∙ ap (λ u. goes (stored e (length d.clauses.items) y) [] [] u) (drop-drop (length (drop 1 ws) - left) 1 ws ∙ ap (λ j. drop j ws) m);
         }
 
-    begun_stops : (r : Refusal) → Stops k (just_open 0) (numbered k d) (fresh k) (tail ws) r → goes d [] [] ws ≡ Err r
+    begun_stops : (r : Refusal) → Stops (just_open k 0) (numbered k d) (fresh k) (tail ws) r → goes d [] [] ws ≡ Err r
     begun_stops r h =
-        let c : Stops k (just_open 0) (numbered k d) (fresh k) (drop 1 ws) r = subst (λ q. Stops k (just_open 0) (numbered k d) (fresh k) q r) (tail_is ws) h in
+        let c : Stops (just_open k 0) (numbered k d) (fresh k) (drop 1 ws) r = subst (λ q. Stops (just_open k 0) (numbered k d) (fresh k) q r) (tail_is ws) h in
         outside_head d ws some (omega arith) count k (sym ew ∙ is) ∙ c [] [] (length d.clauses.items) refl
 
     pub begun_behind : (r : Result ℕ Refusal) (e : Draft) → Behind k 0 d (tail ws) r e → Begun d ws r e
@@ -104,7 +104,7 @@ first_whole d e ws left b z =
 
 stray_fault : (n : ℕ) → 1 ≤ n → (w : Option Word) → checked w (fault_outside n) ≡ Err (stray_reason w)
 stray_fault n h (Some (Head k)) = ap (λ b. elim (cond b None (Some MisplacedWord)) [ Some y ↦ Err y | None ↦ Ok (Head k) ]) (ne_eqb n 0 (λ e. omega arith))
-stray_fault n h (Some (Value a c)) = refl
+stray_fault n h (Some (Value v)) = refl
 stray_fault n h (Some Except) = refl
 stray_fault n h (Some End) = refl
 stray_fault n h None = refl

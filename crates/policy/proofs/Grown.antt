@@ -37,7 +37,7 @@ valued a c (y ∷ ys) = record { list = listed a c y.list; exceptions = y.except
 
 abbrev pub grown : Reading → Word → List Node → List Node
 grown r (Head k) ys = record { list = empty; exceptions = none } ∷ ys
-grown r (Value a c) ys = valued a c ys
+grown r (Value v) ys = valued v.attribute v.code ys
 grown r Except ys = ys
 grown r End ys = shut_top r.open_clauses ys
 

@@ -10,7 +10,7 @@ use Rattle.policy.specs.declared.clause.Kind.TheVariants.{Allow, Deny}
 use Rattle.refusals.specs.declared.refusal.Reason.TheVariants.{BadValue, NotRising}
 use Rattle.policy.specs.declared.word.Word.{Word}
 use Rattle.policy.specs.declared.word.Word.TheVariants.{Head, Value, Except, End}
-use Rattle.policy.specs.Decode.{word_of, value_word_of, plain}
+use Rattle.policy.specs.Decode.{word_of, value, value_word_of, plain}
 use Rattle.policy.specs.Words.{ALLOW, DENY, EXCEPT, END, value_word, values_below, list_words, in_range, list_in_range, size_of, value_fault, Small}
 use Rattle.policy.specs.Walk.{listed, empty}
 use Rattle.policy.proofs.Values.{values_push, values_none, or_pow, pow_suc_two, mod_low}
@@ -19,7 +19,7 @@ use Rattle.policy.proofs.Values.{values_push, values_none, or_pow, pow_suc_two, 
 abbrev pub Encodes : ℕ → Word → Type 0
 Encodes w (Head Allow) = w ≡ ALLOW
 Encodes w (Head Deny) = w ≡ DENY
-Encodes w (Value a c) = w ≡ value_word a c
+Encodes w (Value v) = w ≡ value_word v.attribute v.code
 Encodes w Except = w ≡ EXCEPT
 Encodes w End = w ≡ END
 
@@ -33,7 +33,7 @@ plain_encodes w x f = cond_both (eqb (w % 2 ^ 28) 0) (Some x) None (λ y. Encode
 
 value_encodes : (w : ℕ) → w / 2 ^ 28 ≡ 3 → EncodesSome w (value_word_of w)
 value_encodes w h =
-    cond_both (eqb ((w / 2 ^ 8) % 2 ^ 16) 0) (Some (Value ((w / 2 ^ 24) % 2 ^ 4) (w % 2 ^ 8))) None (λ y. EncodesSome w y)
+    cond_both (eqb ((w / 2 ^ 8) % 2 ^ 16) 0) (Some (value ((w / 2 ^ 24) % 2 ^ 4) (w % 2 ^ 8))) None (λ y. EncodesSome w y)
     (λ e. let z : (w / 2 ^ 8) % 2 ^ 16 ≡ 0 = eqb-true _ _ e in omega arith) (λ e. tt)
 
 encodes_some : (w : ℕ) → EncodesSome w (word_of w)

@@ -146,10 +146,10 @@ module _ (z : Sizes) where
     record { kind = refl; list = refl; inside = tt; upto = omega arith },
     sim_same z fs ys ss heads rs (rs ++ fresh k ∷ []) (λ j low. get_or_append_left rs (fresh k ∷ []) (fresh Allow) j (omega arith)) p,
   )
-  top_step [] ys ss heads rs len p (Value a c) e = absurd (impossible e)
-  top_step (f ∷ fs) [] ss heads rs len p (Value a c) e = absurd p
-  top_step (f ∷ fs) (y ∷ ys) [] heads rs len p (Value a c) e = absurd p
-  top_step (f ∷ fs) (y ∷ ys) (s ∷ ss) heads rs len p (Value a c) e = (record { kind = p.0.kind; list = ap (listed a c) p.0.list; inside = p.0.inside; upto = p.0.upto }, p.1)
+  top_step [] ys ss heads rs len p (Value v) e = absurd (impossible e)
+  top_step (f ∷ fs) [] ss heads rs len p (Value v) e = absurd p
+  top_step (f ∷ fs) (y ∷ ys) [] heads rs len p (Value v) e = absurd p
+  top_step (f ∷ fs) (y ∷ ys) (s ∷ ss) heads rs len p (Value v) e = (record { kind = p.0.kind; list = ap (listed v.attribute v.code) p.0.list; inside = p.0.inside; upto = p.0.upto }, p.1)
   top_step [] ys ss heads rs len p Except e = absurd (impossible e)
   top_step (f ∷ fs) [] ss heads rs len p Except e = absurd p
   top_step (f ∷ fs) (y ∷ ys) [] heads rs len p Except e = absurd p
@@ -165,7 +165,7 @@ module _ (z : Sizes) where
 
   recorded_length : (r : Reading) (v : Word) (x : Records) → length x.clauses ≡ r.heads → length (recorded z r v x).clauses ≡ (advanced r v).heads
   recorded_length r (Head k) x e = length-append x.clauses (fresh k ∷ []) ∙ ap (λ n. n + 1) e
-  recorded_length r (Value a c) x e = e
+  recorded_length r (Value v) x e = e
   recorded_length r Except x e = e
   recorded_length r End x e = ended_length r.heads x.opens x.clauses ∙ e
 

@@ -1,4 +1,4 @@
--- What the sets of specs/Sets.antt hold and what their loops compute. Assumes nothing.
+-- What the sets of lattices hold, and what is gathered over their values. Assumes nothing.
 use Rattle.std.proofs.Common.{◌≡◌, ℕ, zero, suc, ◌<◌, Bool, true, false, cond, not, ◌&&◌, ◌||◌, Some, None, Decides, Option, sym, refl, ap, ◌∙◌, subst, inl, inr, arith}
 use Rattle.std.proofs.lemmas.Bool.{cases_eq, and_parts, and_from, or_cases, or_left, or_right, both_ways}
 use Rattle.lattice.specs.Sets.{has, with, every, some_below, least, all_of, some_of, gather, image}
@@ -83,7 +83,7 @@ pub some_of_from : (s : ℕ) (p : ℕ → Bool) (v : ℕ) → v < 64 → has s v
 unfolding some_of
 some_of_from s p v inside holds passes = some_below_from (λ v. has s v && p v) 64 v inside (and_from (has s v) (p v) holds passes)
 
--- ---- loops over the values of a set
+-- ---- what is gathered over the values of a set
 
 -- what holds of the start and is kept by each value taken in, and by each passed over, holds of the result
 pub gather_keeps : {A : Type 0} (f : A → ℕ → A) (start : A) (s : ℕ) (P : ℕ → A → Type 0) (n : ℕ) → P 0 start →

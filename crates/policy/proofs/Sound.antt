@@ -306,21 +306,21 @@ module _ (z : Sizes) (small : Small z) (w : ℕ) where
   top_step : (k : Kind) (p : Phase) (t : ℕ) (fs : List Frame) (y : Node) (ys : List Node) (heads : ℕ) → GoodFrame z (suc (length fs)) (top k p t) y → GoodUnder z k fs ys → heads ≡ count_open (top k p t ∷ fs) (y ∷ ys) → heads ≤ 256
       → (v : Word) → Encodes w v → fault_in z (suc (length fs)) heads k t p v ≡ None → Stepped (top k p t ∷ fs) heads (y ∷ ys) v
   top_step k Listing t fs y ys heads g u n few (Head j) ew e = absurd (impossible e)
-  top_step k Listing t fs y ys heads g u n few (Value a c) ew e = value_step k t a c fs y ys heads g u n few e ew
+  top_step k Listing t fs y ys heads g u n few (Value v) ew e = value_step k t v.attribute v.code fs y ys heads g u n few e ew
   top_step k Listing t fs y ys heads g u n few Except ew e = except_step k t fs y ys heads g u n few ew
   top_step k Listing t fs y ys heads g u n few End ew e = end_step k Listing t fs y ys heads g u n few (listing_part y.exceptions g.parts) ew
   top_step k Excepting t fs y ys heads g u n few (Head j) ew e = inner_head (top k Excepting t) fs y ys heads g u n few j tt e (head_encoded w j ew)
-  top_step k Excepting t fs y ys heads g u n few (Value a c) ew e = absurd (impossible e)
+  top_step k Excepting t fs y ys heads g u n few (Value v) ew e = absurd (impossible e)
   top_step k Excepting t fs y ys heads g u n few Except ew e = absurd (impossible e)
   top_step k Excepting t fs y ys heads g u n few End ew e = absurd (impossible e)
   top_step k Excepted t fs y ys heads g u n few (Head j) ew e = inner_head (top k Excepted t) fs y ys heads g u n few j tt e (head_encoded w j ew)
-  top_step k Excepted t fs y ys heads g u n few (Value a c) ew e = absurd (impossible e)
+  top_step k Excepted t fs y ys heads g u n few (Value v) ew e = absurd (impossible e)
   top_step k Excepted t fs y ys heads g u n few Except ew e = absurd (impossible e)
   top_step k Excepted t fs y ys heads g u n few End ew e = end_step k Excepted t fs y ys heads g u n few refl ew
 
   outside_step : (y : Node) (heads : ℕ) → Outside z y.exceptions → heads ≡ clauses_count y.exceptions → (v : Word) → Encodes w v → fault_outside heads v ≡ None → Stepped [] heads (y ∷ []) v
   outside_step y heads g n (Head k) ew e = outside_head heads k y y.exceptions refl g n e (head_encoded w k ew)
-  outside_step y heads g n (Value a c) ew e = absurd (impossible e)
+  outside_step y heads g n (Value v) ew e = absurd (impossible e)
   outside_step y heads g n Except ew e = absurd (impossible e)
   outside_step y heads g n End ew e = absurd (impossible e)
 

@@ -13,8 +13,8 @@ use Rattle.refusals.specs.declared.refusal.Reason.{Reason}
 use Rattle.refusals.specs.declared.refusal.Reason.TheVariants.{MisplacedWord}
 use Rattle.refusals.specs.declared.refusal.Refusal.{Refusal}
 use Rattle.policy.specs.declared.word.Word.{Word}
-use Rattle.policy.specs.declared.word.Word.TheVariants.{Head, Value, Except, End}
-use Rattle.policy.specs.Decode.{word_of}
+use Rattle.policy.specs.declared.word.Word.TheVariants.{Head, Except, End}
+use Rattle.policy.specs.Decode.{value, word_of}
 use Rattle.policy.specs.Words.{Frame, position, Reading, checked, admitted, fault_in, advanced, ended}
 use Rattle.policy.specs.Walk.{walk, Slot, Records, recorded, fresh, with_value, closed}
 use Rattle.policy.specs.Reads.{Ready, frame_of, slot, goes, stored, numbered, just_open, Closes, Stops, Reads, Behind}
@@ -26,7 +26,7 @@ pub record Along (k : Kind) (depth : ℕ) (start : Draft) (all : List ℕ) (numb
   pub ready : Ready o d ws
   pub given : number ≡ length start.clauses.items
   pub inside : number < length d.clauses.items
-  pub on : (r : Result ℕ Refusal) (e : Draft) (y : ClauseRecord) → Reads k o d x ws r e y → Reads k (just_open depth) (numbered k start) (fresh k) all r e y
+  pub on : (r : Result ℕ Refusal) (e : Draft) (y : ClauseRecord) → Reads o d x ws r e y → Reads (just_open k depth) (numbered k start) (fresh k) all r e y
 
 -- `rest` of the pattern `[first, rest @ ..]`
 abbrev pub tail : List ℕ → List ℕ
@@ -35,54 +35,54 @@ tail ws = take (length ws - 1) (drop 1 ws)
 pub tail_is : (ws : List ℕ) → tail ws ≡ drop 1 ws
 tail_is ws = take_rest ws 1
 
-abbrev reading : Kind → Open → Draft → List Frame → Reading
-reading k o d fs = record { open_clauses = frame_of k o ∷ fs; heads = (length d.clauses.items) }
+abbrev reading : Open → Draft → List Frame → Reading
+reading o d fs = record { open_clauses = frame_of o ∷ fs; heads = (length d.clauses.items) }
 
 abbrev records : Draft → List Slot → Records
 records d ss = record { opens = ss; clauses = d.clauses.items }
 
 -- the first of the words, as it is taken inside the open clause
-abbrev pub seen : Kind → Open → Draft → List ℕ → Result Word Reason
-seen k o d ws = checked (word_of (get_or ws 0 0)) (fault_in d.sizes o.depth (length d.clauses.items) k (position o.last.0 o.last.1) o.phase)
+abbrev pub seen : Open → Draft → List ℕ → Result Word Reason
+seen o d ws = checked (word_of (get_or ws 0 0)) (fault_in d.sizes o.depth (length d.clauses.items) o.kind (position o.last.attribute o.last.code) o.phase)
 
-seen_as : (k : Kind) (o : Open) (d : Draft) (w : ℕ) (ws : List ℕ) (fs : List Frame) → length fs + 1 ≡ o.depth → admitted d.sizes (reading k o d fs) w ≡ seen k o d (w ∷ ws)
-seen_as k o d w ws fs el =
+seen_as : (o : Open) (d : Draft) (w : ℕ) (ws : List ℕ) (fs : List Frame) → length fs + 1 ≡ o.depth → admitted d.sizes (reading o d fs) w ≡ seen o d (w ∷ ws)
+seen_as o d w ws fs el =
     let deep : suc (length fs) ≡ o.depth = omega arith in
-    ap (λ n. checked (word_of w) (fault_in d.sizes n (length d.clauses.items) k (position o.last.0 o.last.1) o.phase)) deep
+    ap (λ n. checked (word_of w) (fault_in d.sizes n (length d.clauses.items) o.kind (position o.last.attribute o.last.code) o.phase)) deep
 
 -- the end of the words
-pub stops_none : (k : Kind) (o : Open) (d : Draft) (x : ClauseRecord) (ws : List ℕ) → length ws < 1 → Stops k o d x ws (record { reason = MisplacedWord; place = d.total - length ws })
+pub stops_none : (o : Open) (d : Draft) (x : ClauseRecord) (ws : List ℕ) → length ws < 1 → Stops o d x ws (record { reason = MisplacedWord; place = d.total - length ws })
 unfolding walk
-stops_none k o d x [] h fs ss n e = refl
-stops_none k o d x (w ∷ ws) h fs ss n e = absurd (omega arith)
+stops_none o d x [] h fs ss n e = refl
+stops_none o d x (w ∷ ws) h fs ss n e = absurd (omega arith)
 
-pub stops_at : (k : Kind) (o : Open) (d : Draft) (x : ClauseRecord) (ws : List ℕ) → 1 ≤ length ws → (y : Reason) → seen k o d ws ≡ Err y
-    → Stops k o d x ws (record { reason = y; place = d.total - length ws })
-stops_at k o d x [] h y e fs ss n el = absurd (omega arith)
-stops_at k o d x (w ∷ ws) h y e fs ss n el =
-    walk_stop (recorded d.sizes) d.sizes (reading k o d fs) (records d (slot n x ∷ ss)) (d.total - length (w ∷ ws)) w ws y (seen_as k o d w ws fs el ∙ e)
+pub stops_at : (o : Open) (d : Draft) (x : ClauseRecord) (ws : List ℕ) → 1 ≤ length ws → (y : Reason) → seen o d ws ≡ Err y
+    → Stops o d x ws (record { reason = y; place = d.total - length ws })
+stops_at o d x [] h y e fs ss n el = absurd (omega arith)
+stops_at o d x (w ∷ ws) h y e fs ss n el =
+    walk_stop (recorded d.sizes) d.sizes (reading o d fs) (records d (slot n x ∷ ss)) (d.total - length (w ∷ ws)) w ws y (seen_as o d w ws fs el ∙ e)
 
 -- a word without a fault
-goes_on : (k : Kind) (o : Open) (d : Draft) (ws : List ℕ) → 1 ≤ length ws → length ws ≤ d.total → (v : Word) → seen k o d ws ≡ Ok v
+goes_on : (o : Open) (d : Draft) (ws : List ℕ) → 1 ≤ length ws → length ws ≤ d.total → (v : Word) → seen o d ws ≡ Ok v
     → (fs : List Frame) (ss : List Slot) → length fs + 1 ≡ o.depth
-    → goes d (frame_of k o ∷ fs) ss ws
-    ≡ walk (recorded d.sizes) d.sizes (advanced (reading k o d fs) v) (recorded d.sizes (reading k o d fs) v (records d ss)) (d.total - length (drop 1 ws)) (drop 1 ws)
-goes_on k o d [] h hi v e fs ss el = absurd (omega arith)
-goes_on k o d (w ∷ ws) h hi v e fs ss el =
+    → goes d (frame_of o ∷ fs) ss ws
+    ≡ walk (recorded d.sizes) d.sizes (advanced (reading o d fs) v) (recorded d.sizes (reading o d fs) v (records d ss)) (d.total - length (drop 1 ws)) (drop 1 ws)
+goes_on o d [] h hi v e fs ss el = absurd (omega arith)
+goes_on o d (w ∷ ws) h hi v e fs ss el =
     let p : d.total - length (w ∷ ws) + 1 ≡ d.total - length ws = omega arith in
-    walk_on (recorded d.sizes) d.sizes (reading k o d fs) (records d ss) (d.total - length (w ∷ ws)) w ws v (seen_as k o d w ws fs el ∙ e)
-    ∙ ap (λ i. walk (recorded d.sizes) d.sizes (advanced (reading k o d fs) v) (recorded d.sizes (reading k o d fs) v (records d ss)) i ws) p
+    walk_on (recorded d.sizes) d.sizes (reading o d fs) (records d ss) (d.total - length (w ∷ ws)) w ws v (seen_as o d w ws fs el ∙ e)
+    ∙ ap (λ i. walk (recorded d.sizes) d.sizes (advanced (reading o d fs) v) (recorded d.sizes (reading o d fs) v (records d ss)) i ws) p
 
 -- the same clause is read on from a later place
-module _ (k : Kind) (o o' : Open) (d d' : Draft) (x x' : ClauseRecord) (ws : List ℕ) (m : ℕ) (low : 1 ≤ m) (high : m ≤ length ws) (grows : (length d.clauses.items) ≤ (length d'.clauses.items)) (sizes : d'.sizes ≡ d.sizes) (total : d'.total ≡ d.total) (deep : o'.depth ≡ o.depth)
-    (step : (fs : List Frame) (ss : List Slot) (n : ℕ) → length fs + 1 ≡ o.depth → goes d (frame_of k o ∷ fs) (slot n x ∷ ss) ws ≡ goes d' (frame_of k o' ∷ fs) (slot n x' ∷ ss) (drop m ws)) where
+module _ (o o' : Open) (d d' : Draft) (x x' : ClauseRecord) (ws : List ℕ) (m : ℕ) (low : 1 ≤ m) (high : m ≤ length ws) (grows : (length d.clauses.items) ≤ (length d'.clauses.items)) (sizes : d'.sizes ≡ d.sizes) (total : d'.total ≡ d.total) (deep : o'.depth ≡ o.depth)
+    (step : (fs : List Frame) (ss : List Slot) (n : ℕ) → length fs + 1 ≡ o.depth → goes d (frame_of o ∷ fs) (slot n x ∷ ss) ws ≡ goes d' (frame_of o' ∷ fs) (slot n x' ∷ ss) (drop m ws)) where
   rest_of_rest : (left : ℕ) → left < length (drop m ws) → drop (length (drop m ws) - left) (drop m ws) ≡ drop (length ws - left) ws
   rest_of_rest left h =
       let n : length (drop m ws) ≡ length ws - m = length-drop m ws in
       let p : m + (length (drop m ws) - left) ≡ length ws - left = omega arith in
       drop-drop (length (drop m ws) - left) m ws ∙ ap (λ i. drop i ws) p
 
-  pub later : (r : Result ℕ Refusal) (e : Draft) (y : ClauseRecord) → Reads k o' d' x' (drop m ws) r e y → Reads k o d x ws r e y
+  pub later : (r : Result ℕ Refusal) (e : Draft) (y : ClauseRecord) → Reads o' d' x' (drop m ws) r e y → Reads o d x ws r e y
   later (Ok left) e y h =
       let n : length (drop m ws) ≡ length ws - m = length-drop m ws in
       record {
@@ -95,31 +95,31 @@ module _ (k : Kind) (o o' : Open) (d d' : Draft) (x x' : ClauseRecord) (ws : Lis
       }
   later (Err r) e y h = λ fs ss n el. step fs ss n el ∙ h fs ss n (el ∙ sym deep)
 
-module _ (k : Kind) (o : Open) (d : Draft) (x : ClauseRecord) (ws : List ℕ) (some : 1 ≤ length ws) (ready : Ready o d ws) (w : Word) (ew : seen k o d ws ≡ Ok w) where
+module _ (o : Open) (d : Draft) (x : ClauseRecord) (ws : List ℕ) (some : 1 ≤ length ws) (ready : Ready o d ws) (w : Word) (ew : seen o d ws ≡ Ok w) where
   on_by : (v : Word) → w ≡ v → (fs : List Frame) (ss : List Slot) → length fs + 1 ≡ o.depth
-      → goes d (frame_of k o ∷ fs) ss ws
-      ≡ walk (recorded d.sizes) d.sizes (advanced (reading k o d fs) v) (recorded d.sizes (reading k o d fs) v (records d ss)) (d.total - length (drop 1 ws)) (drop 1 ws)
+      → goes d (frame_of o ∷ fs) ss ws
+      ≡ walk (recorded d.sizes) d.sizes (advanced (reading o d fs) v) (recorded d.sizes (reading o d fs) v (records d ss)) (d.total - length (drop 1 ws)) (drop 1 ws)
   on_by v is fs ss el =
-      goes_on k o d ws some ready.within w ew fs ss el
-      ∙ ap (λ y. walk (recorded d.sizes) d.sizes (advanced (reading k o d fs) y) (recorded d.sizes (reading k o d fs) y (records d ss)) (d.total - length (drop 1 ws)) (drop 1 ws)) is
+      goes_on o d ws some ready.within w ew fs ss el
+      ∙ ap (λ y. walk (recorded d.sizes) d.sizes (advanced (reading o d fs) y) (recorded d.sizes (reading o d fs) y (records d ss)) (d.total - length (drop 1 ws)) (drop 1 ws)) is
 
   at_except : w ≡ Except → (r : Result ℕ Refusal) (e : Draft) (y : ClauseRecord)
-      → Reads k (record { phase = Excepting; last = o.last; depth = o.depth }) d x (tail ws) r e y → Reads k o d x ws r e y
+      → Reads (record { kind = o.kind; phase = Excepting; last = o.last; depth = o.depth }) d x (tail ws) r e y → Reads o d x ws r e y
   at_except is r e y h =
-      later k o (record { phase = Excepting; last = o.last; depth = o.depth }) d d x x ws 1 (omega arith) some (omega arith) refl refl refl (λ fs ss n el. on_by Except is fs (slot n x ∷ ss) el) r e y
-      (subst (λ u. Reads k (record { phase = Excepting; last = o.last; depth = o.depth }) d x u r e y) (tail_is ws) h)
+      later o (record { kind = o.kind; phase = Excepting; last = o.last; depth = o.depth }) d d x x ws 1 (omega arith) some (omega arith) refl refl refl (λ fs ss n el. on_by Except is fs (slot n x ∷ ss) el) r e y
+      (subst (λ u. Reads (record { kind = o.kind; phase = Excepting; last = o.last; depth = o.depth }) d x u r e y) (tail_is ws) h)
 
-  at_value : (a v : ℕ) → w ≡ Value a v → (x' : ClauseRecord) → x' ≡ with_value a v x → (r : Result ℕ Refusal) (e : Draft) (y : ClauseRecord)
-      → Reads k (record { phase = o.phase; last = (a, v); depth = o.depth }) d x' (tail ws) r e y
-      → Reads k o d x ws r e y
+  at_value : (a v : ℕ) → w ≡ value a v → (x' : ClauseRecord) → x' ≡ with_value a v x → (r : Result ℕ Refusal) (e : Draft) (y : ClauseRecord)
+      → Reads (record { kind = o.kind; phase = o.phase; last = record { attribute = a; code = v }; depth = o.depth }) d x' (tail ws) r e y
+      → Reads o d x ws r e y
   at_value a v is x' ex r e y h =
-      let P : ClauseRecord → List ℕ → Type 0 = λ q u. Reads k (record { phase = o.phase; last = (a, v); depth = o.depth }) d q u r e y in
+      let P : ClauseRecord → List ℕ → Type 0 = λ q u. Reads (record { kind = o.kind; phase = o.phase; last = record { attribute = a; code = v }; depth = o.depth }) d q u r e y in
       let h₁ : P (with_value a v x) (tail ws) = subst (λ q. P q (tail ws)) ex h in
       let h₂ : P (with_value a v x) (drop 1 ws) = subst (λ q. P (with_value a v x) q) (tail_is ws) h₁ in
-      later k o (record { phase = o.phase; last = (a, v); depth = o.depth }) d d x (with_value a v x)
-      ws 1 (omega arith) some (omega arith) refl refl refl (λ fs ss n el. on_by (Value a v) is fs (slot n x ∷ ss) el) r e y h₂
+      later o (record { kind = o.kind; phase = o.phase; last = record { attribute = a; code = v }; depth = o.depth }) d d x (with_value a v x)
+      ws 1 (omega arith) some (omega arith) refl refl refl (λ fs ss n el. on_by (value a v) is fs (slot n x ∷ ss) el) r e y h₂
 
-  at_end : w ≡ End → (y : ClauseRecord) → y ≡ closed d.sizes (length d.clauses.items) x → Closes k o d x ws (length (tail ws)) d y
+  at_end : w ≡ End → (y : ClauseRecord) → y ≡ closed d.sizes (length d.clauses.items) x → Closes o d x ws (length (tail ws)) d y
   at_end is y ey =
       let n : length (tail ws) ≡ length ws - 1 = ap length (tail_is ws) ∙ length-drop 1 ws in
       let one : 1 ≡ length ws - length (tail ws) = omega arith in
@@ -136,50 +136,50 @@ module _ (k : Kind) (o : Open) (d : Draft) (x : ClauseRecord) (ws : List ℕ) (s
       }
 
   -- a head: the inner clause, then the rest of this one
-  abbrev inner : Open
-  inner = just_open o.depth
+  abbrev inner : Kind → Open
+  inner k' = just_open k' o.depth
 
   on_head : (k' : Kind) → w ≡ Head k' → (fs : List Frame) (ss : List Slot) → length fs + 1 ≡ o.depth
-      → goes d (frame_of k o ∷ fs) ss ws ≡ goes (numbered k' d) (frame_of k' inner ∷ frame_of k o ∷ fs) (slot (length d.clauses.items) (fresh k') ∷ ss) (drop 1 ws)
+      → goes d (frame_of o ∷ fs) ss ws ≡ goes (numbered k' d) (frame_of (inner k') ∷ frame_of o ∷ fs) (slot (length d.clauses.items) (fresh k') ∷ ss) (drop 1 ws)
   on_head k' is fs ss el =
       let n : length d.clauses.items + 1 ≡ length (d.clauses.items ++ fresh k' ∷ []) = sym (length-append d.clauses.items (fresh k' ∷ [])) in
       on_by (Head k') is fs ss el
-      ∙ ap (λ h. walk (recorded d.sizes) d.sizes (record { open_clauses = frame_of k' inner ∷ frame_of k o ∷ fs; heads = h })
+      ∙ ap (λ h. walk (recorded d.sizes) d.sizes (record { open_clauses = frame_of (inner k') ∷ frame_of o ∷ fs; heads = h })
       (record { opens = slot (length d.clauses.items) (fresh k') ∷ ss; clauses = d.clauses.items ++ fresh k' ∷ [] }) (d.total - length (drop 1 ws)) (drop 1 ws)) n
 
-  at_head_stops : (k' : Kind) → w ≡ Head k' → (r : Refusal) → Stops k' inner (numbered k' d) (fresh k') (tail ws) r → Stops k o d x ws r
+  at_head_stops : (k' : Kind) → w ≡ Head k' → (r : Refusal) → Stops (inner k') (numbered k' d) (fresh k') (tail ws) r → Stops o d x ws r
   at_head_stops k' is r h fs ss n el =
-      let h₁ : Stops k' inner (numbered k' d) (fresh k') (drop 1 ws) r = subst (λ u. Stops k' inner (numbered k' d) (fresh k') u r) (tail_is ws) h in
-      on_head k' is fs (slot n x ∷ ss) el ∙ h₁ (frame_of k o ∷ fs) (slot n x ∷ ss) (length d.clauses.items) (let z : suc (length fs) + 1 ≡ o.depth + 1 = omega arith in z)
+      let h₁ : Stops (inner k') (numbered k' d) (fresh k') (drop 1 ws) r = subst (λ u. Stops (inner k') (numbered k' d) (fresh k') u r) (tail_is ws) h in
+      on_head k' is fs (slot n x ∷ ss) el ∙ h₁ (frame_of o ∷ fs) (slot n x ∷ ss) (length d.clauses.items) (let z : suc (length fs) + 1 ≡ o.depth + 1 = omega arith in z)
 
   abbrev later_open : Open
-  later_open = record { phase = Excepted; last = o.last; depth = o.depth }
+  later_open = record { kind = o.kind; phase = Excepted; last = o.last; depth = o.depth }
 
-  at_head_on : (k' : Kind) → w ≡ Head k' → (left : ℕ) (e : Draft) (y : ClauseRecord) → Closes k' inner (numbered k' d) (fresh k') (tail ws) left e y
-      → (u : List ℕ) → u ≡ drop (length (tail ws) - left) (tail ws) → (r : Result ℕ Refusal) (g : Draft) (q : ClauseRecord) → Reads k later_open (stored e (length d.clauses.items) y) x u r g q → Reads k o d x ws r g q
+  at_head_on : (k' : Kind) → w ≡ Head k' → (left : ℕ) (e : Draft) (y : ClauseRecord) → Closes (inner k') (numbered k' d) (fresh k') (tail ws) left e y
+      → (u : List ℕ) → u ≡ drop (length (tail ws) - left) (tail ws) → (r : Result ℕ Refusal) (g : Draft) (q : ClauseRecord) → Reads later_open (stored e (length d.clauses.items) y) x u r g q → Reads o d x ws r g q
   at_head_on k' is left e y c u eu r g q h =
       let n : length (tail ws) ≡ length ws - 1 = ap length (tail_is ws) ∙ length-drop 1 ws in
       let n' : length (drop 1 ws) ≡ length ws - 1 = length-drop 1 ws in
-      let c₁ : Closes k' inner (numbered k' d) (fresh k') (drop 1 ws) left e y = subst (λ u. Closes k' inner (numbered k' d) (fresh k') u left e y) (tail_is ws) c in
+      let c₁ : Closes (inner k') (numbered k' d) (fresh k') (drop 1 ws) left e y = subst (λ u. Closes (inner k') (numbered k' d) (fresh k') u left e y) (tail_is ws) c in
       let low : left < length (drop 1 ws) = c₁.shorter in
       let m : ℕ = length ws - left in
       let em : 1 + (length (drop 1 ws) - left) ≡ m = omega arith in
       let e₁ : drop (length (drop 1 ws) - left) (drop 1 ws) ≡ drop m ws = drop-drop (length (drop 1 ws) - left) 1 ws ∙ ap (λ i. drop i ws) em in
       let e₂ : u ≡ drop m ws = eu ∙ (ap (λ v. drop (length v - left) v) (tail_is ws) ∙ e₁) in
-      let h₁ : Reads k later_open (stored e (length d.clauses.items) y) x (drop m ws) r g q = subst (λ v. Reads k later_open (stored e (length d.clauses.items) y) x v r g q) e₂ h in
-      later k o later_open d (stored e (length d.clauses.items) y) x x ws m (omega arith) (omega arith) (omega (arith, c₁.grows, length-append d.clauses.items (fresh k' ∷ []), length-set e.clauses.items (length d.clauses.items) y)) c₁.sizes c₁.total refl
+      let h₁ : Reads later_open (stored e (length d.clauses.items) y) x (drop m ws) r g q = subst (λ v. Reads later_open (stored e (length d.clauses.items) y) x v r g q) e₂ h in
+      later o later_open d (stored e (length d.clauses.items) y) x x ws m (omega arith) (omega arith) (omega (arith, c₁.grows, length-append d.clauses.items (fresh k' ∷ []), length-set e.clauses.items (length d.clauses.items) y)) c₁.sizes c₁.total refl
       (λ fs ss n el. on_head k' is fs (slot n x ∷ ss) el
-      ∙ (c₁.on (frame_of k o ∷ fs) (slot n x ∷ ss) (length d.clauses.items) (let z : suc (length fs) + 1 ≡ o.depth + 1 = omega arith in z) ∙ ap (λ v. goes (stored e (length d.clauses.items) y) (frame_of k later_open ∷ fs) (slot n x ∷ ss) v) e₁))
+      ∙ (c₁.on (frame_of o ∷ fs) (slot n x ∷ ss) (length d.clauses.items) (let z : suc (length fs) + 1 ≡ o.depth + 1 = omega arith in z) ∙ ap (λ v. goes (stored e (length d.clauses.items) y) (frame_of later_open ∷ fs) (slot n x ∷ ss) v) e₁))
       r g q h₁
 
 refilled : (xs ys : List ClauseRecord) → length ys ≡ length xs → refill (length xs) xs ys ≡ ys
 refilled xs ys e = let le : length ys ≤ length ys = omega arith in rw (← e) (rw take-append-le (take-length ys))
 
-pub along_start : (k : Kind) (depth : ℕ) (start : Draft) (all : List ℕ) (number : ℕ) → Ready (just_open depth) (numbered k start) all → number ≡ length start.clauses.items
-    → (o : Open) → o ≡ just_open depth → (x : ClauseRecord) → x ≡ fresh k → (v : ArrayVec ClauseRecord) → v.items ≡ start.clauses.items ++ x ∷ []
+pub along_start : (k : Kind) (depth : ℕ) (start : Draft) (all : List ℕ) (number : ℕ) → Ready (just_open k depth) (numbered k start) all → number ≡ length start.clauses.items
+    → (o : Open) → o ≡ just_open k depth → (x : ClauseRecord) → x ≡ fresh k → (v : ArrayVec ClauseRecord) → v.items ≡ start.clauses.items ++ x ∷ []
     → Along k depth start all number o (record { clauses = v; sizes = start.sizes; total = start.total }) x all
 along_start k depth start all number ready given o eo x ex v ev =
-    let first : Along k depth start all number (just_open depth) (numbered k start) (fresh k) all =
+    let first : Along k depth start all number (just_open k depth) (numbered k start) (fresh k) all =
     record { ready = ready; given = given; inside = omega (arith, length-append start.clauses.items (fresh k ∷ [])); on = λ r e y h. h } in
     let pushed : record { clauses = v; sizes = start.sizes; total = start.total } ≡ numbered k start =
     ap (λ xs. record { clauses = record { items = xs }; sizes = start.sizes; total = start.total }) (ev ∙ ap (λ y. start.clauses.items ++ y ∷ []) ex) in
@@ -187,33 +187,33 @@ along_start k depth start all number ready given o eo x ex v ev =
 
 -- one word more of the clause
 module _ (k : Kind) (depth : ℕ) (start : Draft) (all : List ℕ) (number : ℕ) (o : Open) (d : Draft) (x : ClauseRecord) (ws : List ℕ) (a : Along k depth start all number o d x ws) where
-  pub along_none : length ws < 1 → Stops k (just_open depth) (numbered k start) (fresh k) all (record { reason = MisplacedWord; place = d.total })
+  pub along_none : length ws < 1 → Stops (just_open k depth) (numbered k start) (fresh k) all (record { reason = MisplacedWord; place = d.total })
   along_none h =
       let p : d.total - length ws ≡ d.total = omega arith in
-      a.on (Err (record { reason = MisplacedWord; place = d.total })) d x (subst (λ i. Stops k o d x ws (record { reason = MisplacedWord; place = i })) p (stops_none k o d x ws h))
+      a.on (Err (record { reason = MisplacedWord; place = d.total })) d x (subst (λ i. Stops o d x ws (record { reason = MisplacedWord; place = i })) p (stops_none o d x ws h))
 
   module _ (some : 1 ≤ length ws) where
-    pub along_fault : (y : Reason) → seen k o d ws ≡ Err y → Stops k (just_open depth) (numbered k start) (fresh k) all (record { reason = y; place = d.total - length ws })
-    along_fault y ey = a.on (Err (record { reason = y; place = d.total - length ws })) d x (stops_at k o d x ws some y ey)
+    pub along_fault : (y : Reason) → seen o d ws ≡ Err y → Stops (just_open k depth) (numbered k start) (fresh k) all (record { reason = y; place = d.total - length ws })
+    along_fault y ey = a.on (Err (record { reason = y; place = d.total - length ws })) d x (stops_at o d x ws some y ey)
 
-    module _ (w : Word) (ew : seen k o d ws ≡ Ok w) where
+    module _ (w : Word) (ew : seen o d ws ≡ Ok w) where
       fewer : length (tail ws) ≤ d.total
       fewer = omega (arith, ap length (tail_is ws), length-drop 1 ws, a.ready.within)
 
-      pub along_except : w ≡ Except → Along k depth start all number (record { phase = Excepting; last = o.last; depth = o.depth }) d x (tail ws)
+      pub along_except : w ≡ Except → Along k depth start all number (record { kind = o.kind; phase = Excepting; last = o.last; depth = o.depth }) d x (tail ws)
       along_except is = record {
         ready = record { room = a.ready.room; deep = a.ready.deep; within = fewer; sized = a.ready.sized };
         given = a.given;
         inside = a.inside;
-        on = λ r e y h. a.on r e y (at_except k o d x ws some a.ready w ew is r e y h);
+        on = λ r e y h. a.on r e y (at_except o d x ws some a.ready w ew is r e y h);
       }
 
-      pub along_value : (v n : ℕ) → w ≡ Value v n → (x' : ClauseRecord) → x' ≡ with_value v n x → Along k depth start all number (record { phase = o.phase; last = (v, n); depth = o.depth }) d x' (tail ws)
+      pub along_value : (v n : ℕ) → w ≡ value v n → (x' : ClauseRecord) → x' ≡ with_value v n x → Along k depth start all number (record { kind = o.kind; phase = o.phase; last = record { attribute = v; code = n }; depth = o.depth }) d x' (tail ws)
       along_value v n is x' ex = record {
         ready = record { room = a.ready.room; deep = a.ready.deep; within = fewer; sized = a.ready.sized };
         given = a.given;
         inside = a.inside;
-        on = λ r e y h. a.on r e y (at_value k o d x ws some a.ready w ew v n is x' ex r e y h);
+        on = λ r e y h. a.on r e y (at_value o d x ws some a.ready w ew v n is x' ex r e y h);
       }
 
       -- the record is written through the slice that is lent for it
@@ -224,7 +224,7 @@ module _ (k : Kind) (depth : ℕ) (start : Draft) (all : List ℕ) (number : ℕ
         (
           y,
           (
-            a.on (Ok (length (tail ws))) d y (at_end k o d x ws some a.ready w ew is y ey),
+            a.on (Ok (length (tail ws))) d y (at_end o d x ws some a.ready w ew is y ey),
             ap (λ rs. record { clauses = record { items = refill (length d.clauses.items) d.clauses.items (slice_set rs number y) }; sizes = d.sizes; total = d.total }) el
                 ∙ ap (λ rs. record { clauses = record { items = rs }; sizes = d.sizes; total = d.total }) (refilled d.clauses.items (slice_set d.clauses.items number y) (length-set d.clauses.items number y))
                 ∙ ap (λ n. stored d n y) a.given,
@@ -234,15 +234,15 @@ module _ (k : Kind) (depth : ℕ) (start : Draft) (all : List ℕ) (number : ℕ
 
       module _ (k' : Kind) (is : w ≡ Head k') where
         pub along_head_stops : (r : Refusal) (e : Draft) → Behind k' o.depth d (tail ws) (Err r) e → Behind k depth start all (Err r) e
-        along_head_stops r e h = a.on (Err r) d x (at_head_stops k o d x ws some a.ready w ew k' is r h)
+        along_head_stops r e h = a.on (Err r) d x (at_head_stops o d x ws some a.ready w ew k' is r h)
 
         pub along_head : (left : ℕ) (e : Draft) → Behind k' o.depth d (tail ws) (Ok left) e → (u : List ℕ) → u ≡ drop (length (tail ws) - left) (tail ws)
-            → Along k depth start all number (record { phase = Excepted; last = o.last; depth = o.depth }) e x u
+            → Along k depth start all number (record { kind = o.kind; phase = Excepted; last = o.last; depth = o.depth }) e x u
         along_head left e (g, (y, (c, q))) u eu =
             let same : length (slice_set g.clauses.items (length d.clauses.items) y) ≡ length g.clauses.items = length-set g.clauses.items (length d.clauses.items) y in
             let one : length (d.clauses.items ++ fresh k' ∷ []) ≡ length d.clauses.items + 1 = length-append d.clauses.items (fresh k' ∷ []) in
             let m : length u ≤ length (tail ws) = omega (arith, ap length eu, length-drop (length (tail ws) - left) (tail ws)) in
-            subst (λ f. Along k depth start all number (record { phase = Excepted; last = o.last; depth = o.depth }) f x u) (sym q) (record {
+            subst (λ f. Along k depth start all number (record { kind = o.kind; phase = Excepted; last = o.last; depth = o.depth }) f x u) (sym q) (record {
               ready = record {
                 room = omega (arith, c.room);
                 deep = omega (arith, a.ready.deep, c.grows);
@@ -251,5 +251,5 @@ module _ (k : Kind) (depth : ℕ) (start : Draft) (all : List ℕ) (number : ℕ
               };
               given = a.given;
               inside = omega (arith, a.inside, c.grows);
-              on = λ r f z h. a.on r f z (at_head_on k o d x ws some a.ready w ew k' is left g y c u eu r f z h);
+              on = λ r f z h. a.on r f z (at_head_on o d x ws some a.ready w ew k' is left g y c u eu r f z h);
             })

@@ -3,10 +3,15 @@ use Rattle.std.proofs.Common.{◌≡◌, ℕ, zero, suc, ◌+◌, ◌-◌, ◌*�
 use native.Mathlib.Nat.{div-eq_of_lt, pow-le-pow_right}
 use lib.Bits.{bit_or, or_shifted_r}
 use lib.Pow.{field, mod-mod-pow, mod-pow-add, high, low}
-use Rattle.std.proofs.lemmas.Bool.{eqb-true, eqb-false}
-use Rattle.std.proofs.lemmas.Nat.{pow_pos, mod_below}
-use Rattle.lattice.specs.Sets.{has}
+use Rattle.std.proofs.lemmas.Bool.{eqb-true, eqb-false, cond_below}
+use Rattle.std.proofs.lemmas.Nat.{pow_pos, mod_below, one_shl}
+use Rattle.lattice.specs.Sets.{has, with, inserted}
+use Rattle.lattice.proofs.Masks.{with_by_or}
 use Rattle.policy.specs.Words.{values_below, value_word}
+
+-- a value is added to a set by its bit
+pub inserted_by_or : (s v : ℕ) → v < 64 → inserted s v ≡ bit_or s (2 ^ v)
+inserted_by_or s v inside = sym (cond_below v 64 (with s v) s inside) ∙ sym (with_by_or s v inside) ∙ ap (bit_or s) (one_shl v 64 inside)
 
 pub bit_lt : (s v : ℕ) → (s / 2 ^ v) % 2 < 2
 bit_lt s v = mod_below (s / 2 ^ v) 2 (omega arith)

@@ -7,8 +7,11 @@ use Rattle.policy.specs.declared.word.Word.TheVariants.{Head, Value, Except, End
 abbrev pub plain : ℕ → Word → Option Word
 plain w x = cond (w % 2 ^ 28 == 0) (Some x) None
 
+abbrev pub value : ℕ → ℕ → Word
+value a c = Value (record { attribute = a; code = c })
+
 abbrev pub value_word_of : ℕ → Option Word
-value_word_of w = cond ((w / 2 ^ 8) % 2 ^ 16 == 0) (Some (Value ((w / 2 ^ 24) % 2 ^ 4) (w % 2 ^ 8))) None
+value_word_of w = cond ((w / 2 ^ 8) % 2 ^ 16 == 0) (Some (value ((w / 2 ^ 24) % 2 ^ 4) (w % 2 ^ 8))) None
 
 abbrev pub word_of : ℕ → Option Word
 word_of w =

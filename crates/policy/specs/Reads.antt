@@ -20,8 +20,8 @@ pub record Ready (o : Open) (d : Draft) (ws : List ℕ) : Type 0 where
   pub within : length ws ≤ d.total
   pub sized : Sized d.sizes
 
-abbrev pub frame_of : Kind → Open → Frame
-frame_of k o = record { kind = k; phase = o.phase; last = position o.last.0 o.last.1 }
+abbrev pub frame_of : Open → Frame
+frame_of o = record { kind = o.kind; phase = o.phase; last = position o.last.attribute o.last.code }
 
 abbrev pub slot : ℕ → ClauseRecord → Slot
 slot n x = record { number = n; filling = x }
@@ -40,33 +40,33 @@ abbrev pub numbered : Kind → Draft → Draft
 numbered k d = record { clauses = record { items = d.clauses.items ++ fresh k ∷ [] }; sizes = d.sizes; total = d.total }
 
 -- the clause whose record was x is read to its end: its record is y, and `left` words are left
-pub record Closes (k : Kind) (o : Open) (d : Draft) (x : ClauseRecord) (ws : List ℕ) (left : ℕ) (e : Draft) (y : ClauseRecord) : Type 0 where
+pub record Closes (o : Open) (d : Draft) (x : ClauseRecord) (ws : List ℕ) (left : ℕ) (e : Draft) (y : ClauseRecord) : Type 0 where
   pub shorter : left < length ws
   pub grows : length d.clauses.items ≤ length e.clauses.items
   pub room : length e.clauses.items ≤ 256
   pub sizes : e.sizes ≡ d.sizes
   pub total : e.total ≡ d.total
   pub on : (fs : List Frame) (ss : List Slot) (n : ℕ) → length fs + 1 ≡ o.depth
-      → goes d (frame_of k o ∷ fs) (slot n x ∷ ss) ws ≡ goes (stored e n y) (ended fs) ss (drop (length ws - left) ws)
+      → goes d (frame_of o ∷ fs) (slot n x ∷ ss) ws ≡ goes (stored e n y) (ended fs) ss (drop (length ws - left) ws)
 
 -- the words are declined
-abbrev pub Stops : Kind → Open → Draft → ClauseRecord → List ℕ → Refusal → Type 0
-Stops k o d x ws e =
-    (fs : List Frame) (ss : List Slot) (n : ℕ) → length fs + 1 ≡ o.depth → goes d (frame_of k o ∷ fs) (slot n x ∷ ss) ws ≡ Err e
+abbrev pub Stops : Open → Draft → ClauseRecord → List ℕ → Refusal → Type 0
+Stops o d x ws e =
+    (fs : List Frame) (ss : List Slot) (n : ℕ) → length fs + 1 ≡ o.depth → goes d (frame_of o ∷ fs) (slot n x ∷ ss) ws ≡ Err e
 
-abbrev pub Reads : Kind → Open → Draft → ClauseRecord → List ℕ → Result ℕ Refusal → Draft → ClauseRecord → Type 0
-Reads k o d x ws (Ok left) e y = Closes k o d x ws left e y
-Reads k o d x ws (Err r) e y = Stops k o d x ws r
+abbrev pub Reads : Open → Draft → ClauseRecord → List ℕ → Result ℕ Refusal → Draft → ClauseRecord → Type 0
+Reads o d x ws (Ok left) e y = Closes o d x ws left e y
+Reads o d x ws (Err r) e y = Stops o d x ws r
 
 -- a clause whose head alone is read, inside `depth` others
-abbrev pub just_open : ℕ → Open
-just_open depth = record { phase = Listing; last = (0, 0); depth = depth + 1 }
+abbrev pub just_open : Kind → ℕ → Open
+just_open k depth = record { kind = k; phase = Listing; last = record { attribute = 0; code = 0 }; depth = depth + 1 }
 
 -- a clause inside `depth` others is given the next number and read from the word behind its head on, and its record is stored
 abbrev pub Behind : Kind → ℕ → Draft → List ℕ → Result ℕ Refusal → Draft → Type 0
 Behind k depth d ws (Ok left) e =
-    (g : Draft) × ((y : ClauseRecord) × (Reads k (just_open depth) (numbered k d) (fresh k) ws (Ok left) g y × (e ≡ stored g (length d.clauses.items) y)))
-Behind k depth d ws (Err r) e = Stops k (just_open depth) (numbered k d) (fresh k) ws r
+    (g : Draft) × ((y : ClauseRecord) × (Reads (just_open k depth) (numbered k d) (fresh k) ws (Ok left) g y × (e ≡ stored g (length d.clauses.items) y)))
+Behind k depth d ws (Err r) e = Stops (just_open k depth) (numbered k d) (fresh k) ws r
 
 -- the words of a policy, from its first on
 abbrev pub Firsts : Draft → List ℕ → Result (Unit {0}) Refusal → Draft → Type 0

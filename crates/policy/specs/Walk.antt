@@ -60,6 +60,6 @@ rest_of (s ∷ ss) = ss
 
 abbrev pub recorded : Sizes → Reading → Word → Records → Records
 recorded z r (Head k) x = record { opens = record { number = r.heads; filling = fresh k } ∷ x.opens; clauses = x.clauses ++ fresh k ∷ [] }
-recorded z r (Value a c) x = record { opens = top_with a c x.opens; clauses = x.clauses }
+recorded z r (Value v) x = record { opens = top_with v.attribute v.code x.opens; clauses = x.clauses }
 recorded z r Except x = x
 recorded z r End x = record { opens = rest_of x.opens; clauses = top_ended z r.heads x.opens x.clauses }

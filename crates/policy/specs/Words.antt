@@ -142,27 +142,32 @@ value_fault z last a c =
 
 abbrev pub fault_in : Sizes → ℕ → ℕ → Kind → ℕ → Phase → Word → Option Reason
 fault_in z opens heads k last Listing (Head h) = Some MisplacedWord
-fault_in z opens heads k last Listing (Value a c) = value_fault z last a c
+fault_in z opens heads k last Listing (Value v) = value_fault z last v.attribute v.code
 fault_in z opens heads k last Listing Except = None
 fault_in z opens heads k last Listing End = None
 fault_in z opens heads k last Excepting (Head h) = head_fault opens heads k h
-fault_in z opens heads k last Excepting (Value a c) = Some MisplacedWord
+fault_in z opens heads k last Excepting (Value v) = Some MisplacedWord
 fault_in z opens heads k last Excepting Except = Some MisplacedWord
 fault_in z opens heads k last Excepting End = Some MisplacedWord
 fault_in z opens heads k last Excepted (Head h) = head_fault opens heads k h
-fault_in z opens heads k last Excepted (Value a c) = Some MisplacedWord
+fault_in z opens heads k last Excepted (Value v) = Some MisplacedWord
 fault_in z opens heads k last Excepted Except = Some MisplacedWord
 fault_in z opens heads k last Excepted End = None
 
 -- outside every clause only the first head may stand
 abbrev pub fault_outside : ℕ → Word → Option Reason
 fault_outside heads (Head k) = cond (heads == 0) None (Some MisplacedWord)
-fault_outside heads (Value a c) = Some MisplacedWord
+fault_outside heads (Value v) = Some MisplacedWord
 fault_outside heads Except = Some MisplacedWord
 fault_outside heads End = Some MisplacedWord
 
 abbrev pub fault : Sizes → Reading → Word → Option Reason
 fault z r w = elim r.open_clauses [ [] ↦ fault_outside r.heads w | f ∷ fs ↦ fault_in z (length (f ∷ fs)) r.heads f.kind f.last f.phase w ]
+
+-- a test that passes where there is no fault, and fails with it where there is one
+abbrev pub clear : Option Reason → Result (Unit {0}) Reason
+clear None = Ok tt
+clear (Some e) = Err e
 
 -- the word, where there is one and it has no fault, or why it is declined
 abbrev pub checked : Option Word → (Word → Option Reason) → Result Word Reason
@@ -185,8 +190,8 @@ ended (f ∷ fs) = in_phase Excepted f ∷ fs
 
 abbrev pub advanced : Reading → Word → Reading
 advanced r (Head k) = record { open_clauses = opened k ∷ r.open_clauses; heads = r.heads + 1 }
-advanced r (Value a c) = record {
-  open_clauses = elim r.open_clauses [ [] ↦ [] | f ∷ fs ↦ record { kind = f.kind; phase = f.phase; last = position a c } ∷ fs ];
+advanced r (Value v) = record {
+  open_clauses = elim r.open_clauses [ [] ↦ [] | f ∷ fs ↦ record { kind = f.kind; phase = f.phase; last = position v.attribute v.code } ∷ fs ];
   heads = r.heads;
 }
 advanced r Except = record { open_clauses = elim r.open_clauses [ [] ↦ [] | f ∷ fs ↦ in_phase Excepting f ∷ fs ]; heads = r.heads }

@@ -20,6 +20,7 @@ impl Kind {
     }
 }
 
+/// A clause of a policy. It points into the row by number, since a policy takes no heap: its clauses stand in one row and not in boxes.
 #[derive(Clone, Copy, Default)]
 pub(crate) struct ClauseRecord {
     pub(crate) kind: Kind,

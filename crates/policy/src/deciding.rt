@@ -51,7 +51,7 @@ fn opened<V: Vocabulary>(scheme: &V, clause: ClauseRecord, label: Label) -> Opti
 }
 
 impl<V: Vocabulary> Asked<'_, V> {
-    // What the clause answers.
+    /// What the clause answers.
     pub(crate) fn decide(&self, label: Label) -> Decision
         ensures passed { result.passed ≡ allows (V.orders self.now.scheme.now) (tree self.now.records.now self.now.number) label }
         ensures clause { result.clause ≡ decider (V.orders self.now.scheme.now) self.now.number (tree self.now.records.now self.now.number) label }
@@ -103,7 +103,7 @@ impl<V: Vocabulary> Asked<'_, V> {
         }
     }
 
-    // The data types that a denial of `label` rests on.
+    /// The data types that a denial of `label` rests on.
     pub(crate) fn evidence(&self, label: Label) -> u64
         ensures { result ≡ evidence (V.orders self.now.scheme.now) (tree self.now.records.now self.now.number) label }
     {

@@ -1,5 +1,6 @@
 //! A policy whose words are being read.
-use crate::clause::ClauseRecord;
+use crate::clause::{ClauseRecord, Kind};
+use crate::word::Value;
 use arrayvec::ArrayVec;
 use lattice::Sizes;
 
@@ -11,11 +12,12 @@ pub(crate) enum Phase {
     Excepted,
 }
 
-/// How far a clause is read: its phase, the last value behind its attribute's number, and how many clauses are open with it.
+/// How far a clause is read: its kind, its phase, the last value, and how many clauses are open with it.
 #[derive(Clone, Copy)]
 pub(crate) struct Open {
+    pub(crate) kind: Kind,
     pub(crate) phase: Phase,
-    pub(crate) last: (u8, u8),
+    pub(crate) last: Value,
     pub(crate) depth: usize,
 }
 

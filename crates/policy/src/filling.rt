@@ -5,20 +5,22 @@ ghost use Rattle.policy.specs.Walk.{listed, with_value, closed, fresh};
 
 use crate::clause::{ClauseRecord, Kind};
 use crate::label::Label;
+use crate::word::Value;
 use lattice::Sizes;
+use lattice::bitset::insert;
 
 impl Label {
-    // Adds a value of an attribute, by its number as the words have it.
-    fn insert(&mut self, attribute: u8, value: u8)
-        requires { value < 64 }
-        ensures { self.new ≡ listed attribute value self.old }
+    // Adds a value of an attribute.
+    #[tactic(auto, using(crate::proofs::Values::inserted_by_or))]
+    fn insert(&mut self, value: Value)
+        requires { value.code < 64 }
+        ensures { self.new ≡ listed value.attribute value.code self.old }
     {
-        let bit = 1u64 << value;
-        match attribute {
-            0 => self.store |= bit,
-            1 => self.purpose |= bit,
-            2 => self.role |= bit,
-            _ => self.types |= bit,
+        match value.attribute {
+            0 => self.store = insert(self.store, value.code),
+            1 => self.purpose = insert(self.purpose, value.code),
+            2 => self.role = insert(self.role, value.code),
+            _ => self.types = insert(self.types, value.code),
         }
     }
 }
@@ -36,11 +38,11 @@ impl ClauseRecord {
     }
 
     /// Adds a value to the list.
-    pub(crate) fn insert(&mut self, attribute: u8, value: u8)
-        requires { value < 64 }
-        ensures { self.new ≡ with_value attribute value self.old }
+    pub(crate) fn insert(&mut self, value: Value)
+        requires { value.code < 64 }
+        ensures { self.new ≡ with_value value.attribute value.code self.old }
     {
-        self.list.insert(attribute, value);
+        self.list.insert(value);
     }
 
     /// Fills the list up and sets the end.

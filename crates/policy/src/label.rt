@@ -7,6 +7,7 @@ ghost use Rattle.policy.specs.Labels.{or_top, filled, declared};
 use crate::vocabulary::Vocabulary;
 use lattice::Sizes;
 
+/// A set of values for each attribute, a bit for each value.
 #[derive(Clone, Copy, PartialEq, Eq, Debug, Default)]
 pub struct Label {
     pub store: u64,

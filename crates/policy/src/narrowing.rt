@@ -13,7 +13,7 @@ fn is_reached<L: Lattice>(lattice: &L, value: u8, list: u64) -> bool
     values(list).any(|w| lattice.below(value, w))
 }
 
-// Whether each value of `label` is at or below some value of `list`.
+/// Whether each value of `label` is at or below some value of `list`.
 pub(crate) fn covers<L: Lattice>(lattice: &L, label: u64, list: u64) -> bool
     ensures { result ≡ covered_in (L.order lattice.now) label list }
 {
@@ -30,7 +30,7 @@ fn common<L: Lattice>(lattice: &L, label: u64, value: u8) -> u8
     })
 }
 
-// What each value of `list` has in common with `label`.
+/// What each value of `list` has in common with `label`.
 pub(crate) fn narrow<L: Lattice>(lattice: &L, label: u64, list: u64) -> u64
     ensures { result ≡ narrowed_in (L.order lattice.now) label list }
 {

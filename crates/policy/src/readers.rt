@@ -6,19 +6,23 @@ ghost use Rattle.policy.specs.Stands.{Drafted};
 
 use crate::clause::{ClauseRecord, Kind};
 use crate::draft::{Draft, Open, Phase};
-use crate::word::{Word, word_of};
+use crate::word::{Value, Word, word_of};
 use arrayvec::ArrayVec;
 use lattice::{Reason, Refusal, Sizes};
 
 impl Open {
-    /// A clause whose head alone is read, inside `depth` others.
-    fn inside(depth: usize) -> Open
+    /// A clause of this kind whose head alone is read, inside `depth` others.
+    fn inside(kind: Kind, depth: usize) -> Open
         requires { depth ≤ 256 }
-        ensures { result ≡ just_open depth }
+        ensures { result ≡ just_open kind depth }
     {
         Open {
+            kind,
             phase: Phase::Listing,
-            last: (0, 0),
+            last: Value {
+                attribute: 0,
+                code: 0,
+            },
             depth: depth + 1,
         }
     }
@@ -28,18 +32,18 @@ impl Draft {
     /// Reads a clause inside `depth` others from the word behind its head on. It has the next number.
     /// Says how many words are left after its END.
     fn read_behind(&mut self, kind: Kind, depth: usize, words: &[u32]) -> Result<usize, Refusal>
-        requires { Ready (just_open depth) (numbered kind self.old) words.now }
+        requires { Ready (just_open kind depth) (numbered kind self.old) words.now }
         ensures { Behind kind depth self.old words.now result self.new }
     {
         let number = self.clauses.len();
         let mut own = ClauseRecord::opened(kind);
         self.clauses.push(own);
-        let mut top = Open::inside(depth);
+        let mut top = Open::inside(kind, depth);
         let mut left = words;
         while let [first, rest @ ..] = left {
             let place = self.total - left.len();
             let word = self
-                .admitted(kind, top, *first)
+                .admitted(top, *first)
                 .map_err(|reason| reason.at(place))?;
             left = rest;
             match word {
@@ -48,9 +52,9 @@ impl Draft {
                     left = &rest[rest.len() - behind..];
                     top.phase = Phase::Excepted;
                 }
-                Word::Value(attribute, value) => {
-                    own.insert(attribute, value);
-                    top.last = (attribute, value);
+                Word::Value(value) => {
+                    own.insert(value);
+                    top.last = value;
                 }
                 Word::Except => top.phase = Phase::Excepting,
                 Word::End => {

@@ -7,6 +7,7 @@ use crate::label::Label;
 use crate::narrowing;
 use lattice::{Lattice, Scheme, Sizes};
 
+/// The lattices of the four attributes, as a policy asks them.
 pub trait Vocabulary {
     /// The orders of the four attributes.
     ghost orders: { Self → Orders };

@@ -4,10 +4,17 @@ ghost use Rattle.policy.specs.Decode.{word_of, value_word_of};
 
 use crate::clause::Kind;
 
+/// A value of an attribute, both by number. Values rise by attribute, then by code.
+#[derive(Clone, Copy, PartialEq, Eq, PartialOrd, Ord)]
+pub(crate) struct Value {
+    pub(crate) attribute: u8,
+    pub(crate) code: u8,
+}
+
 #[derive(Clone, Copy)]
 pub(crate) enum Word {
     Head(Kind),
-    Value(u8, u8),
+    Value(Value),
     Except,
     End,
 }
@@ -16,8 +23,11 @@ pub(crate) enum Word {
 fn value_of(word: u32) -> Option<Word>
     ensures { result ≡ value_word_of word }
 {
-    let value = Word::Value((word >> 24 & 0xf) as u8, (word & 0xff) as u8);
-    (word >> 8 & 0xffff == 0).then_some(value)
+    let value = Value {
+        attribute: (word >> 24 & 0xf) as u8,
+        code: (word & 0xff) as u8,
+    };
+    (word >> 8 & 0xffff == 0).then_some(Word::Value(value))
 }
 
 /// What a number says as a word, if it is one. Its high four bits are the kind.

@@ -38,7 +38,7 @@ loop-left-preserved-in-Value t c =
     let some : 1 ≤ length c.loop-left.left.now = search rules in
     record {
       shorter = search rules;
-      along = along_value _ _ _ _ _ _ _ _ _ c.loop-left.invariant.along some c.in_ok-word.word (sym c.admitted.ensures ∙ search rules) c.in-Value.attribute c.in-Value.value c.in-Value.is c.insert.new.self c.insert.ensures;
+      along = along_value _ _ _ _ _ _ _ _ _ c.loop-left.invariant.along some c.in_ok-word.word (sym c.admitted.ensures ∙ search rules) c.in-Value.value.attribute c.in-Value.value.code c.in-Value.is c.insert.new.self c.insert.ensures;
     }
 
 pub loop-left-preserved : goal.loop-left-preserved

@@ -8,7 +8,7 @@ decreases-read_behind l = length l.words.now
 abbrev pub invariant-loop-left : goal.invariant-loop-left
 invariant-loop-left l = record {
   shorter : length l.left ≤ length l.words;
-  along : Along l.kind l.depth l.fn.self l.words l.number l.top l.self l.own l.left;
+  along : Along l.fn.kind l.depth l.fn.self l.words l.number l.top l.self l.own l.left;
 }
 
 abbrev pub decreases-loop-left : goal.decreases-loop-left
