@@ -4,6 +4,8 @@ ghost use Rattle.std.specs.List.{list_all};
 ghost use Rattle.ledger.specs.Ledger.{good_row, counting};
 ghost use Rattle.inventory.specs.View.{first_steps};
 
+use arrayvec::ArrayVec;
+
 // Whether each entry is a value.
 fn all_values(size: u8, row: &[u8]) -> bool
     ensures { result ≡ list_all (λ v. nat_lt v size) row.now }
@@ -30,7 +32,7 @@ pub(crate) fn padded(row: &[u8]) -> [u8; 64]
 }
 
 // The row that leaves each value as it is, with zeros behind it.
-pub(crate) fn identity(size: u8) -> [u8; 64]
+fn identity(size: u8) -> [u8; 64]
     requires { size ≤ 64 }
     ensures { result ≡ counting size ++ replicate (64 - size) 0 }
 {
@@ -39,11 +41,11 @@ pub(crate) fn identity(size: u8) -> [u8; 64]
 }
 
 // The rows of a new inventory: the identity alone.
-pub(crate) fn first_steps(size: u8) -> [[u8; 64]; 32]
+pub(crate) fn first_steps(size: u8) -> ArrayVec<[u8; 64], 32>
     requires { size ≤ 64 }
-    ensures { result ≡ first_steps size }
+    ensures { result.items ≡ first_steps size }
 {
-    let mut steps = [[0; 64]; 32];
-    steps[0] = identity(size);
+    let mut steps = ArrayVec::new();
+    steps.push(identity(size));
     steps
 }

@@ -35,7 +35,7 @@ impl Inventory<'_> {
         if !rows::good_row(self.sizes.types, row) {
             return Err(Reason::BadArgument.at(0));
         }
-        if self.step_count >= 32 {
+        if self.steps.is_full() {
             return Err(Reason::NoRoom.at(0));
         }
         Ok(())
@@ -100,7 +100,7 @@ impl Inventory<'_> {
     {
         self.check_node(from)?;
         self.check_node(to)?;
-        if step >= self.step_count {
+        if step >= self.steps.len() {
             return Err(Reason::NoStep.at(step));
         }
         Ok(FlowRecord {

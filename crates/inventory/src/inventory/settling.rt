@@ -33,7 +33,6 @@ impl<'a> Inventory<'a> {
             flows,
             workspace,
             steps,
-            step_count,
             node_count,
             flow_count,
             node_room,
@@ -46,14 +45,13 @@ impl<'a> Inventory<'a> {
             &mut nodes[..node_count],
             workspace,
             &flows[..flow_count],
-            &steps,
+            steps.as_slice(),
         );
         Inventory {
             nodes,
             flows,
             workspace,
             steps,
-            step_count,
             node_count,
             flow_count,
             node_room,
