@@ -64,13 +64,7 @@ impl<'a> Inventory<'a> {
             nodes,
             flows,
             workspace,
-            steps: _,
-            node_count: _,
-            flow_count: _,
-            node_room: _,
-            flow_room: _,
-            sizes: _,
-            settled: _,
+            ..
         } = self;
         Lent {
             nodes,
