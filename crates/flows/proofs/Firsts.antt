@@ -29,7 +29,7 @@ module _ (ns : List NodeRecord) (fl : List FlowRecord) (rows : List (List ℕ)) 
         (omega (arith, node_count, (fit.joined f lf).0), omega (arith, node_count, (fit.joined f lf).1));
     stepped = λ f l.
         let lf : f < F = omega (arith, flow_count) in
-        subst (λ (x : FlowRecord). x.step < 32) (sym (get_or-take F fl f no_flow lf)) (fit.stepped f lf);
+        subst (λ (x : FlowRecord). x.step < length rows) (sym (get_or-take F fl f no_flow lf)) (fit.stepped f lf);
     bounded = fit.bounded;
   }
 

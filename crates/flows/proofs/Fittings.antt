@@ -18,7 +18,7 @@ every_read P xs d none all i = go (dec_lt i (length xs))
 
 module _ (ns : List NodeRecord) (W : List ℕ) (fl : List FlowRecord) (rows : List (List ℕ)) where
   pub fitting_of : (length ns ≤ 4096) × (length fl ≤ 16384) × (128 * length ns ≤ length W)
-      → ((f : ℕ) → f < length fl → FlowFits (length ns) (get_or fl f no_flow)) → All (All (λ v. v < 64)) rows → Fitting (whole ns fl rows) W
+      → ((f : ℕ) → f < length fl → FlowFits (length ns) (length rows) (get_or fl f no_flow)) → All (All (λ v. v < 64)) rows → Fitting (whole ns fl rows) W
   fitting_of sizes flows small = record {
     few_nodes = sizes.0;
     few_flows = sizes.1;

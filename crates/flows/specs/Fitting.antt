@@ -19,9 +19,9 @@ Bounded G k = (t v : ℕ) → carried G t v < k
 abbrev pub SmallMarks : Graph → Type 0
 SmallMarks G = (n : ℕ) → n < G.node_count → (node_at G n).marks < 2 ^ 64
 
--- a flow starts and ends at one of k nodes, and takes one of 32 steps
-abbrev pub FlowFits : ℕ → FlowRecord → Type 0
-FlowFits k flow = (flow.«from» < k) × (flow.to < k) × (flow.step < 32)
+-- a flow starts and ends at one of k nodes, and takes one of m steps
+abbrev pub FlowFits : ℕ → ℕ → FlowRecord → Type 0
+FlowFits k m flow = (flow.«from» < k) × (flow.to < k) × (flow.step < m)
 
 -- the lists are long enough for the counts, and what the flows name is there
 pub record Fitting (G : Graph) (W : List ℕ) : Type 0 where
@@ -31,5 +31,5 @@ pub record Fitting (G : Graph) (W : List ℕ) : Type 0 where
   pub flows_room : G.flow_count ≤ length G.flows
   pub words_room : 128 * G.node_count ≤ length W
   pub joined : Joined G
-  pub stepped : Stepped G 32
+  pub stepped : Stepped G (length G.rows)
   pub bounded : Bounded G 64

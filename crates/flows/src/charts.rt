@@ -5,7 +5,7 @@ use crate::records::FlowRecord;
 #[derive(Clone, Copy)]
 pub(crate) struct Chart<'a> {
     pub(crate) flows: &'a [FlowRecord],
-    pub(crate) rows: &'a [[u8; 64]; 32],
+    pub(crate) rows: &'a [[u8; 64]],
     /// For each node the last flow that starts there.
     pub(crate) head: &'a [Option<u16>],
     /// For each flow the flow before it that starts at the same node: lists by number, since all memory is fixed.

@@ -13,18 +13,20 @@ fn row_fits(row: &[u8; 64]) -> bool
 }
 
 /// Whether all steps make values below 64 alone.
-fn rows_fit(rows: &[[u8; 64]; 32]) -> bool
+fn rows_fit(rows: &[[u8; 64]]) -> bool
     ensures { Decides result (All (All (λ v. v < 64)) rows.now) }
 {
     rows.iter().all(|row| row_fits(row))
 }
 
-/// Whether each flow starts and ends at a node, and takes one of 32 steps.
-fn flows_fit(flows: &[FlowRecord], node_count: usize) -> bool
-    ensures { Decides result ((f : ℕ) → f < length flows.now → FlowFits node_count (slice_index_or flows.now f no_flow)) }
+/// Whether each flow starts and ends at a node, and takes a step that is there.
+fn flows_fit(flows: &[FlowRecord], node_count: usize, step_count: usize) -> bool
+    ensures { Decides result ((f : ℕ) → f < length flows.now → FlowFits node_count step_count (slice_index_or flows.now f no_flow)) }
 {
     flows.iter().all(|flow| {
-        (flow.from as usize) < node_count && (flow.to as usize) < node_count && flow.step < 32
+        (flow.from as usize) < node_count
+            && (flow.to as usize) < node_count
+            && (flow.step as usize) < step_count
     })
 }
 
@@ -40,11 +42,11 @@ pub(crate) fn fits(
     nodes: &[NodeRecord],
     workspace: &[u32],
     flows: &[FlowRecord],
-    rows: &[[u8; 64]; 32],
+    rows: &[[u8; 64]],
 ) -> bool
     ensures { Decides result (Fitting (whole nodes.now flows.now rows.now) workspace.now) }
 {
     sizes_fit(nodes.len(), flows.len(), workspace.len())
-        && flows_fit(flows, nodes.len())
+        && flows_fit(flows, nodes.len(), rows.len())
         && rows_fit(rows)
 }

@@ -59,12 +59,7 @@ fn run(nodes: &mut [NodeRecord], workspace: &mut [u32], chart: Chart, fresh: &mu
 }
 
 /// Fills the labels with every value that reaches a node, and the workspace with the distances and arrivals.
-fn settle(
-    nodes: &mut [NodeRecord],
-    workspace: &mut [u32],
-    flows: &[FlowRecord],
-    rows: &[[u8; 64]; 32],
-)
+fn settle(nodes: &mut [NodeRecord], workspace: &mut [u32], flows: &[FlowRecord], rows: &[[u8; 64]])
     requires { Fitting (whole nodes.old flows.now rows.now) workspace.old }
     ensures { Settled flows.now rows.now (length nodes.old) (length flows.now) nodes.old nodes.new workspace.old workspace.new }
 {
@@ -90,7 +85,7 @@ pub fn spread(
     nodes: &mut [NodeRecord],
     workspace: &mut [u32],
     flows: &[FlowRecord],
-    rows: &[[u8; 64]; 32],
+    rows: &[[u8; 64]],
 ) -> Result<(), Misfit>
     ensures fits { IsOk result ↔ Fitting (whole nodes.old flows.now rows.now) workspace.old }
     ensures refused { OnErr result ((nodes.new ≡ nodes.old) × (workspace.new ≡ workspace.old)) }

@@ -15,7 +15,7 @@ use Rattle.flows.specs.Graph.{no_node, no_flow, holds, node_at, flow_at, carried
 use Rattle.flows.specs.Certificate.{Certified, Near}
 use Rattle.flows.specs.Fitting.{Joined, Bounded, SmallMarks}
 use Rattle.inventory.specs.Sound.{Sound}
-use Rattle.inventory.proofs.Lists.{read_at}
+use Rattle.inventory.proofs.Lists.{read_at, get_or_of_map}
 use Rattle.inventory.proofs.Declines.{nodes_counted, flows_counted}
 use Rattle.flows.proofs.Certificates.{certificate}
 use Rattle.flows.proofs.Trails.{reached, complete}
@@ -59,13 +59,13 @@ module _ (v : View) (s : Sound v) where
   unfolding ledger_of
   flow_same f l = read_at flow_of v.flows v.flow_count f no_flow l
 
-  pub carried_same : (t x : ℕ) → t < v.step_count → ledger_carried (ledger_of v) t x ≡ carried (graph_of v) t x
+  pub carried_same : (t x : ℕ) → t < length v.steps → ledger_carried (ledger_of v) t x ≡ carried (graph_of v) t x
   unfolding ledger_of
   carried_same t x l =
       let row = get_or v.steps t [] in
-      let read : get_or (map (take v.sizes.types) (take v.step_count v.steps)) t [] ≡ take v.sizes.types row =
-      ap (λ d. get_or (map (take v.sizes.types) (take v.step_count v.steps)) t d) (sym (take_none v.sizes.types))
-      ∙ read_at (take v.sizes.types) v.steps v.step_count t [] l in
+      let read : get_or (map (take v.sizes.types) v.steps) t [] ≡ take v.sizes.types row =
+      ap (λ d. get_or (map (take v.sizes.types) v.steps) t d) (sym (take_none v.sizes.types))
+      ∙ get_or_of_map (take v.sizes.types) v.steps t [] in
       ap (λ r. get_or r x 0) read
       ∙ ⊎_elim (λ low. get_or-take v.sizes.types row x 0 low) (λ past. take_past v.sizes.types row x past ∙ sym (s.rows_silent t x past))
       (cases_lt x v.sizes.types)

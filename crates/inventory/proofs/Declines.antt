@@ -1,5 +1,6 @@
 -- What the counts say of a call is what the ledger says.
 use Rattle.std.proofs.Common.{◌≡◌, ℕ, ◌<◌, Bool, true, false, not, ◌&&◌, eqb, ltb, List, length, get_or, take, None, Option, refl, ap, ◌∙◌, arith}
+use Rattle.std.proofs.lemmas.List.{length-map}
 use Rattle.std.proofs.lemmas.Bool.{and_parts, eqb-true, ltb-true, not-true}
 use Rattle.refusals.specs.declared.refusal.Refusal.{Refusal}
 use Rattle.policy.specs.Policies.{Policy}
@@ -23,8 +24,8 @@ module _ (v : View) (s : Sound v) where
   pub flows_counted : length (flows_of v) ≡ v.flow_count
   flows_counted = read_length flow_of v.flows v.flow_count (omega (arith, s.flow_fits))
 
-  pub steps_counted : length (steps_of v) ≡ v.step_count
-  steps_counted = read_length (take v.sizes.types) v.steps v.step_count (omega (arith, s.step_fits))
+  pub steps_counted : length (steps_of v) ≡ length v.steps
+  steps_counted = length-map v.steps (take v.sizes.types)
 
   ends_is : (a b t : ℕ) (rest : Option Refusal)
       → or_else (unless (ltb a (length (nodes_of v))) NoNode a) (or_else (unless (ltb b (length (nodes_of v))) NoNode b)
@@ -76,12 +77,12 @@ module _ (v : View) where
       (one.0, two.0, two.1, ltb-true v.node_count v.node_room (passed_last (ltb v.node_count v.node_room) NoRoom 0 p.1))
 
   pub step_passed : (row : List ℕ) → refusal_of v (step row) ≡ None
-      → (good_row v.sizes.types row ≡ true) × (length row ≡ v.sizes.types) × (v.step_count < 32)
+      → (good_row v.sizes.types row ≡ true) × (length row ≡ v.sizes.types) × (length v.steps < 32)
   step_passed row h =
-      let p = passed (good_row v.sizes.types row) BadArgument 0 (unless (ltb v.step_count 32) NoRoom 0) h in
+      let p = passed (good_row v.sizes.types row) BadArgument 0 (unless (ltb (length v.steps) 32) NoRoom 0) h in
       let front = and_parts (eqb (length row) v.sizes.types && eqb (get_or row 0 0) 0) (list_all (λ x. ltb x v.sizes.types) row) p.0 in
       let long = and_parts (eqb (length row) v.sizes.types) (eqb (get_or row 0 0) 0) front.0 in
-      (p.0, eqb-true (length row) v.sizes.types long.0, ltb-true v.step_count 32 (passed_last (ltb v.step_count 32) NoRoom 0 p.1))
+      (p.0, eqb-true (length row) v.sizes.types long.0, ltb-true (length v.steps) 32 (passed_last (ltb (length v.steps) 32) NoRoom 0 p.1))
 
   pub mark_passed : (n x : ℕ) → refusal_of v (mark n x) ≡ None → (n < v.node_count) × (good_value v.sizes.types x ≡ true)
   mark_passed n x h =
@@ -109,16 +110,16 @@ module _ (v : View) where
       (ltb-true n v.node_count q.0, r.0, (and_parts (same_sizes (scheme_sizes z) v.sizes) (same_sizes p.sizes v.sizes) (passed_last both SizesDiffer 0 r.1)).0)
 
   ends_passed : (a b t : ℕ) (rest : Option Refusal) → ends_there v a b t rest ≡ None
-      → (a < v.node_count) × (b < v.node_count) × (t < v.step_count) × (rest ≡ None)
+      → (a < v.node_count) × (b < v.node_count) × (t < length v.steps) × (rest ≡ None)
   ends_passed a b t rest h =
-      let third = or_else (unless (ltb t v.step_count) NoStep t) rest in
+      let third = or_else (unless (ltb t (length v.steps)) NoStep t) rest in
       let p = passed (ltb a v.node_count) NoNode a (or_else (unless (ltb b v.node_count) NoNode b) third) h in
       let q = passed (ltb b v.node_count) NoNode b third p.1 in
-      let r = passed (ltb t v.step_count) NoStep t rest q.1 in
-      (ltb-true a v.node_count p.0, ltb-true b v.node_count q.0, ltb-true t v.step_count r.0, r.1)
+      let r = passed (ltb t (length v.steps)) NoStep t rest q.1 in
+      (ltb-true a v.node_count p.0, ltb-true b v.node_count q.0, ltb-true t (length v.steps) r.0, r.1)
 
   pub draw_passed : (a b t : ℕ) → refusal_of v (draw a b t) ≡ None
-      → (a < v.node_count) × (b < v.node_count) × (t < v.step_count) × (stands (flows_of v) a b t ≡ false) × (v.flow_count < v.flow_room)
+      → (a < v.node_count) × (b < v.node_count) × (t < length v.steps) × (stands (flows_of v) a b t ≡ false) × (v.flow_count < v.flow_room)
   draw_passed a b t h =
       let room = unless (ltb v.flow_count v.flow_room) NoRoom 0 in
       let e = ends_passed a b t (or_else (unless (not (stands (flows_of v) a b t)) FlowStands 0) room) h in

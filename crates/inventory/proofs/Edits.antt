@@ -1,5 +1,5 @@
 -- What each call's checks and writes come to.
-use Rattle.std.proofs.Common.{◌≡◌, ℕ, ◌+◌, ◌-◌, Bool, true, false, List, ◌++◌, length, get_or, set, replicate, Some, None, sym, refl, ap, ◌∙◌, ◌<◌, ltb, arith}
+use Rattle.std.proofs.Common.{◌≡◌, ℕ, ◌+◌, ◌-◌, Bool, true, false, List, [], ◌∷◌, ◌++◌, length, get_or, set, replicate, Some, None, sym, refl, ap, ◌∙◌, ◌<◌, ltb, arith}
 use Rattle.std.proofs.lemmas.Bool.{and_parts, cond-true, lt-ltb, ltb-true}
 use Rattle.flows.specs.declared.records.NodeRecord.{NodeRecord}
 use Rattle.flows.specs.declared.records.FlowRecord.{FlowRecord}
@@ -34,12 +34,12 @@ module _ (i : Inventory) where
       keeps (enter a b c) (numbered v.node_count) _ refl h (ap numbered (sym (nodes_counted v (sound i))))
       (λ k. put_nodes v (set v.nodes v.node_count (record { store = a; purpose = b; role = c; marks = marks k; label = label k; verified = verified k })) (v.node_count + 1))
 
-  pub stepped_kept : (row new : List ℕ) → None ≡ refusal_of v (step row) → new ≡ row ++ replicate (64 - length row) 0
-      → Kept v (put_steps v (set v.steps v.step_count new) (v.step_count + 1)) (step row) (numbered v.step_count)
+  pub stepped_kept : (row new : List ℕ) (rows : List (List ℕ)) (k : ℕ) → None ≡ refusal_of v (step row) → k ≡ length v.steps
+      → new ≡ row ++ replicate (64 - length row) 0 → rows ≡ v.steps ++ new ∷ [] → Kept v (put_steps v rows) (step row) (numbered k)
   unfolding stored ledger_of
-  stepped_kept row new h is =
-      keeps (step row) (numbered v.step_count) _ refl h (ap numbered (sym (steps_counted v (sound i))))
-      (ap (λ r. put_steps v (set v.steps v.step_count r) (v.step_count + 1)) is)
+  stepped_kept row new rows k h at is more =
+      keeps (step row) (numbered k) _ refl h (ap numbered (at ∙ sym (steps_counted v (sound i))))
+      (ap (put_steps v) (more ∙ ap (λ r. v.steps ++ r ∷ []) is))
 
   -- a node with other marks
   abbrev remarks : ℕ → ℕ → View

@@ -1,5 +1,5 @@
 -- A new inventory.
-use Rattle.std.proofs.Common.{◌≡◌, ℕ, zero, suc, ◌-◌, ◌/◌, ◌<◌, min, true, List, [], ◌∷◌, ◌++◌, length, take, set, replicate, sym, refl, ap, ◌∙◌, subst, arith, lit<}
+use Rattle.std.proofs.Common.{◌≡◌, ℕ, zero, suc, ◌-◌, ◌/◌, ◌<◌, ◌≤◌, min, true, List, [], ◌∷◌, ◌++◌, length, get_or, take, replicate, sym, refl, ap, ◌∙◌, subst, arith}
 use Rattle.std.proofs.lemmas.List.{take_at}
 use Rattle.flows.specs.declared.records.NodeRecord.{NodeRecord}
 use Rattle.flows.specs.declared.records.FlowRecord.{FlowRecord}
@@ -10,7 +10,8 @@ use Rattle.inventory.specs.View.{made_of, made_new, first_steps, ledger_of}
 use Rattle.inventory.specs.Sound.{Sound, GoodSize, GoodRows, BoundedRows, SilentRows}
 use Rattle.std.proofs.lemmas.List.FromFn.{length-range_with_len}
 use Rattle.inventory.proofs.Outcomes.{Parts, parts}
-use Rattle.inventory.proofs.RowLaws.{counting_good, padded_bounded, padded_silent, zero_table}
+use Rattle.inventory.proofs.RowLaws.{counting_good, padded_bounded, padded_silent}
+use Rattle.inventory.proofs.Lists.{every_more}
 
 nearest_good : (n : ℕ) → GoodSize (nearest_size n)
 nearest_good n = (omega arith, omega arith)
@@ -19,20 +20,26 @@ nearest_good n = (omega arith, omega arith)
 front : (n : ℕ) → take n (counting n ++ replicate (64 - n) 0) ≡ counting n
 front n = take_at (counting n) (replicate (64 - n) 0) n (length-range_with_len 0 n)
 
-first_good : (n : ℕ) → 0 < n → GoodRows n (first_steps n) 1
+first_good : (n : ℕ) → 0 < n → GoodRows n (first_steps n)
 first_good n pos zero l = ap (good_row n) (front n) ∙ counting_good n pos
 first_good n pos (suc k) l = absurd (omega arith)
 
+-- the identity with zeros behind it is a padded row
+abbrev identity : ℕ → List ℕ
+identity n = counting n ++ replicate (64 - n) 0
+
+padded_identity : (n : ℕ) → counting n ++ replicate (64 - length (counting n)) 0 ≡ identity n
+padded_identity n = ap (λ k. counting n ++ replicate (64 - k) 0) (length-range_with_len 0 n)
+
 first_bounded : (n : ℕ) → 0 < n → BoundedRows n (first_steps n)
 first_bounded n pos =
-    subst (λ k. BoundedRows n (set (replicate 32 (replicate 64 0)) 0 (counting n ++ replicate (64 - k) 0))) (length-range_with_len 0 n)
-    (padded_bounded n (replicate 32 (replicate 64 0)) 0 (counting n) (lit< tt) (counting_good n pos) (length-range_with_len 0 n) pos
-    (λ t v. omega (arith, zero_table 32 t v)))
+    every_more (λ r. (v : ℕ) → get_or r v 0 < n) [] (identity n) [] (λ v. pos)
+    (λ v. subst (λ r. get_or r v 0 < n) (padded_identity n) (padded_bounded n (counting n) (length-range_with_len 0 n) (counting_good n pos) pos v)) (λ i v. pos)
 
 first_silent : (n : ℕ) → SilentRows n (first_steps n)
 first_silent n =
-    subst (λ k. SilentRows n (set (replicate 32 (replicate 64 0)) 0 (counting n ++ replicate (64 - k) 0))) (length-range_with_len 0 n)
-    (padded_silent n (replicate 32 (replicate 64 0)) 0 (counting n) (lit< tt) (length-range_with_len 0 n) (λ t v past. zero_table 32 t v))
+    every_more (λ r. (v : ℕ) → n ≤ v → get_or r v 0 ≡ 0) [] (identity n) [] (λ v past. refl)
+    (λ v past. subst (λ r. get_or r v 0 ≡ 0) (padded_identity n) (padded_silent n (counting n) (length-range_with_len 0 n) v past)) (λ i v past. refl)
 
 module _ (z : Sizes) (ns : List NodeRecord) (fs : List FlowRecord) (ws : List ℕ) where
   pub fresh_sound : Sound (made_new z ns fs ws)
@@ -40,7 +47,6 @@ module _ (z : Sizes) (ns : List NodeRecord) (fs : List FlowRecord) (ws : List �
     sized = (nearest_good z.store, nearest_good z.purpose, nearest_good z.role, nearest_good z.types);
     node_fits = (omega arith, omega arith, omega arith, omega arith);
     flow_fits = (omega arith, omega arith, omega arith);
-    step_fits = (omega arith, refl);
     nodes_good = λ k l. absurd (omega arith);
     flows_good = λ k l. absurd (omega arith);
     flows_apart = λ i j p. absurd (omega (arith, p.0));
@@ -72,11 +78,11 @@ module _ (z : Sizes) (ns : List NodeRecord) (fs : List FlowRecord) (ws : List �
   pub made_fresh : (sizes : Sizes) (steps : List (List ℕ)) (nodes flows : ℕ) → sizes ≡ nearest_sizes z → steps ≡ first_steps sizes.types
       → nodes ≡ min 4096 (min (length ns) (length ws / 128)) → flows ≡ min 16384 (length fs)
       → record {
-        kept : Parts (made_of ns fs ws steps 1 0 0 nodes flows sizes true);
-        memory : made_of ns fs ws steps 1 0 0 nodes flows sizes true ≡ made_new z ns fs ws;
-        ledger : ledger_of (made_of ns fs ws steps 1 0 0 nodes flows sizes true) ≡ fresh z (length ns) (length fs) (length ws);
+        kept : Parts (made_of ns fs ws steps 0 0 nodes flows sizes true);
+        memory : made_of ns fs ws steps 0 0 nodes flows sizes true ≡ made_new z ns fs ws;
+        ledger : ledger_of (made_of ns fs ws steps 0 0 nodes flows sizes true) ≡ fresh z (length ns) (length fs) (length ws);
       }
   made_fresh sizes steps nodes flows e₁ e₂ e₃ e₄ =
-      let is : made_of ns fs ws steps 1 0 0 nodes flows sizes true ≡ made_new z ns fs ws =
-      λ i. made_of ns fs ws ((e₂ ∙ ap (λ y. first_steps y.types) e₁) i) 1 0 0 (e₃ i) (e₄ i) (e₁ i) true in
+      let is : made_of ns fs ws steps 0 0 nodes flows sizes true ≡ made_new z ns fs ws =
+      λ i. made_of ns fs ws ((e₂ ∙ ap (λ y. first_steps y.types) e₁) i) 0 0 (e₃ i) (e₄ i) (e₁ i) true in
       record { kept = parts _ (subst Sound (sym is) fresh_sound); memory = is; ledger = ap ledger_of is ∙ fresh_ledger }

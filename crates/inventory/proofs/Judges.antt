@@ -1,5 +1,5 @@
 -- What judge and path answer is what the ledger asks, so what is promised of them holds.
-use Rattle.std.proofs.Common.{◌≡◌, ℕ, ◌^◌, ◌<◌, Bool, true, [], ◌∷◌, get_or, take, None, Ok, Err, Option, Result, sym, refl, ap, ◌∙◌, subst, arith}
+use Rattle.std.proofs.Common.{◌≡◌, ℕ, ◌^◌, ◌<◌, Bool, true, [], ◌∷◌, length, get_or, take, None, Ok, Err, Option, Result, sym, refl, ap, ◌∙◌, subst, arith}
 use Rattle.std.proofs.lemmas.Bool.{and_parts, eqb-true}
 use Rattle.lattice.specs.declared.sizes.Sizes.{Sizes}
 use Rattle.policy.specs.declared.label.Label.{Label}
@@ -23,7 +23,7 @@ use Rattle.inventory.specs.Promised.{Promised, PathPromised}
 use Rattle.inventory.specs.View.{View, ledger_of, record_at, held_at, steps_of}
 use Rattle.inventory.specs.Sound.{Sound}
 use Rattle.inventory.specs.Checks.{refusal_of, judge_refusal}
-use Rattle.inventory.proofs.Lists.{read_at}
+use Rattle.inventory.proofs.Lists.{get_or_of_map}
 use Rattle.inventory.proofs.Declines.{nodes_counted, flows_counted, steps_counted, judge_passed}
 use Rattle.inventory.proofs.Bridge.{certified, label_right, node_same, flow_same, take_none}
 use Rattle.inventory.proofs.Outcomes.{given_answer}
@@ -51,9 +51,9 @@ module _ (v : View) (s : Sound v) where
         subst (LedgerGoodNode v.sizes) (sym (node_same v s n below))
         (record { store = from_true _ g.0; purpose = from_true _ g.1; role = from_true _ g.2; marks = from_true _ g.3 });
     steps = λ t l.
-        let below : t < v.step_count = omega (arith, l, steps_counted v s) in
+        let below : t < length v.steps = omega (arith, l, steps_counted v s) in
         let read : get_or (steps_of v) t [] ≡ take v.sizes.types (get_or v.steps t []) =
-        ap (λ d. get_or (steps_of v) t d) (sym (take_none v.sizes.types)) ∙ read_at (take v.sizes.types) v.steps v.step_count t [] below in
+        ap (λ d. get_or (steps_of v) t d) (sym (take_none v.sizes.types)) ∙ get_or_of_map (take v.sizes.types) v.steps t [] in
         from_true _ (ap (good_row v.sizes.types) read ∙ s.rows_good t below);
     flows = λ f l.
         let below : f < v.flow_count = omega (arith, l, flows_counted v s) in

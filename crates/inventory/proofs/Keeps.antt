@@ -1,6 +1,6 @@
 -- An accepted call keeps the invariant.
-use Rattle.std.proofs.Common.{◌≡◌, ℕ, ◌+◌, ◌-◌, ◌<◌, ◌≤◌, Bool, true, false, List, [], ◌++◌, length, get_or, take, set, replicate, Some, None, Option, sym, refl, ap, ◌∙◌, ⊎_elim, arith}
-use Rattle.std.proofs.lemmas.List.{length-set, get_or-set_same, get_or-set_other, take_at}
+use Rattle.std.proofs.Common.{◌≡◌, ℕ, ◌+◌, ◌-◌, ◌<◌, ◌≤◌, Bool, true, false, List, [], ◌∷◌, ◌++◌, length, get_or, take, set, replicate, Some, None, Option, sym, refl, ap, ◌∙◌, ⊎_elim, arith}
+use Rattle.std.proofs.lemmas.List.{length-append, length-set, get_or-set_same, get_or-set_other, take_at}
 use Rattle.std.proofs.lemmas.Bool.{cases_eq, both_ways}
 use Rattle.flows.specs.declared.records.NodeRecord.{NodeRecord}
 use Rattle.flows.specs.declared.records.FlowRecord.{FlowRecord}
@@ -13,7 +13,8 @@ use Rattle.inventory.specs.Sound.{Sound, GoodNode, GoodFlow, Apart}
 use Rattle.inventory.specs.Checks.{refusal_of}
 use Rattle.inventory.proofs.Bits.{in_with, in_without, in_empty}
 use Rattle.inventory.proofs.RowLaws.{padded_bounded, padded_silent}
-use Rattle.inventory.proofs.Lists.{put_each, read_at}
+use Rattle.ledger.proofs.Lists.{each_push}
+use Rattle.inventory.proofs.Lists.{put_each, read_at, every_more}
 use Rattle.inventory.proofs.Found.{none_same, same_self, found_within, not_standing}
 use Rattle.inventory.proofs.Declines.{flows_counted, enter_passed, step_passed, mark_passed, verify_passed, draw_passed}
 
@@ -29,7 +30,6 @@ module _ (v : View) (s : Sound v) where
     sized = s.sized;
     node_fits = (fits, s.node_fits.1, omega (arith, s.node_fits.2, length-set v.nodes n r), s.node_fits.3);
     flow_fits = s.flow_fits;
-    step_fits = s.step_fits;
     nodes_good = put_each (GoodNode v.sizes) v.nodes n count r no_node (omega (arith, s.node_fits.2)) good
         (λ k l ne. s.nodes_good k (old k l ne));
     flows_good = λ k l. let g = s.flows_good k l in (omega (arith, g.0), omega (arith, g.1), g.2);
@@ -72,8 +72,7 @@ module _ (v : View) (s : Sound v) where
       let l = verify_passed v n b h in
       keep_node n (reverified (record_at v n) b) l (s.nodes_good n l)
 
-  keep_step : (row : List ℕ) → refusal_of v (step row) ≡ None
-      → Sound (put_steps v (set v.steps v.step_count (row ++ replicate (64 - length row) 0)) (v.step_count + 1))
+  keep_step : (row : List ℕ) → refusal_of v (step row) ≡ None → Sound (put_steps v (v.steps ++ (row ++ replicate (64 - length row) 0) ∷ []))
   keep_step row h =
       let p = step_passed v row h in
       let new = row ++ replicate (64 - length row) 0 in
@@ -82,27 +81,26 @@ module _ (v : View) (s : Sound v) where
         sized = s.sized;
         node_fits = s.node_fits;
         flow_fits = s.flow_fits;
-        step_fits = (omega (arith, p.2), length-set v.steps v.step_count new ∙ s.step_fits.1);
         nodes_good = s.nodes_good;
-        flows_good = λ k l. let g = s.flows_good k l in (g.0, g.1, omega (arith, g.2));
+        flows_good = λ k l. let g = s.flows_good k l in (g.0, g.1, omega (arith, g.2, length-append v.steps (new ∷ [])));
         flows_apart = s.flows_apart;
-        rows_good = put_each (λ r. good_row v.sizes.types (take v.sizes.types r) ≡ true) v.steps v.step_count (v.step_count + 1) new []
-            (omega (arith, s.step_fits.1)) (ap (good_row v.sizes.types) front ∙ p.0) (λ k l ne. s.rows_good k (omega arith));
-        rows_bounded = padded_bounded v.sizes.types v.steps v.step_count row (omega (arith, s.step_fits.1)) p.0 p.1 (omega (arith, s.sized.3)) s.rows_bounded;
-        rows_silent = padded_silent v.sizes.types v.steps v.step_count row (omega (arith, s.step_fits.1)) p.1 s.rows_silent;
+        rows_good = each_push (λ r. good_row v.sizes.types (take v.sizes.types r) ≡ true) [] v.steps new s.rows_good (ap (good_row v.sizes.types) front ∙ p.0);
+        rows_bounded = every_more (λ r. (x : ℕ) → get_or r x 0 < v.sizes.types) v.steps new [] (λ x. omega (arith, s.sized.3))
+            (padded_bounded v.sizes.types row p.1 p.0 (omega (arith, s.sized.3))) s.rows_bounded;
+        rows_silent = every_more (λ r. (x : ℕ) → v.sizes.types ≤ x → get_or r x 0 ≡ 0) v.steps new [] (λ x past. refl)
+            (padded_silent v.sizes.types row p.1) s.rows_silent;
         labels_settled = unsettled_labels;
       }
 
   -- one flow record is written
-  keep_flows : (n count : ℕ) (r : FlowRecord) → n < v.flow_room → count ≤ v.flow_room → GoodFlow v.node_count v.step_count r
+  keep_flows : (n count : ℕ) (r : FlowRecord) → n < v.flow_room → count ≤ v.flow_room → GoodFlow v.node_count (length v.steps) r
       → ((k : ℕ) → k < count → (k ≡ n → ⊥) → k < v.flow_count) → Apart (set v.flows n r) count → Sound (put_flows v (set v.flows n r) count)
   keep_flows n count r within fits good old apart = record {
     sized = s.sized;
     node_fits = s.node_fits;
     flow_fits = (fits, s.flow_fits.1, omega (arith, s.flow_fits.2, length-set v.flows n r));
-    step_fits = s.step_fits;
     nodes_good = s.nodes_good;
-    flows_good = put_each (GoodFlow v.node_count v.step_count) v.flows n count r no_flow (omega (arith, s.flow_fits.2)) good
+    flows_good = put_each (GoodFlow v.node_count (length v.steps)) v.flows n count r no_flow (omega (arith, s.flow_fits.2)) good
         (λ k l ne. s.flows_good k (old k l ne));
     flows_apart = apart;
     rows_good = s.rows_good;
@@ -150,7 +148,6 @@ module _ (v : View) (s : Sound v) where
     sized = s.sized;
     node_fits = s.node_fits;
     flow_fits = s.flow_fits;
-    step_fits = s.step_fits;
     nodes_good = s.nodes_good;
     flows_good = s.flows_good;
     flows_apart = s.flows_apart;

@@ -1,6 +1,6 @@
 -- What an accepted call writes is what the ledger takes down.
 use Rattle.std.proofs.Common.{◌≡◌, ℕ, ◌-◌, ◌<◌, true, false, [], ◌∷◌, ◌++◌, map, length, get_or, take, set, replicate, Some, None, Option, sym, refl, ap, ◌∙◌, arith}
-use Rattle.std.proofs.lemmas.List.{take_at, take-take}
+use Rattle.std.proofs.lemmas.List.{take_at, take-take, map_push}
 use Rattle.std.proofs.lemmas.Bool.{both_ways}
 use Rattle.flows.specs.declared.records.NodeRecord.{NodeRecord}
 use Rattle.lattice.specs.Sets.{with, without}
@@ -46,7 +46,7 @@ module _ (v : View) (s : Sound v) where
   ledger_right (step row) edits h =
       let p = step_passed v row h in
       ap (with_steps (ledger_of v))
-      (read_more (take v.sizes.types) v.steps v.step_count (row ++ replicate (64 - length row) 0) (omega (arith, s.step_fits.1, p.2))
+      (map_push (take v.sizes.types) v.steps (row ++ replicate (64 - length row) 0)
       ∙ ap (λ r. steps_of v ++ r ∷ []) (take_at row (replicate (64 - length row) 0) v.sizes.types p.1))
   ledger_right (mark n x) edits h =
       ap (with_nodes (ledger_of v))

@@ -1,5 +1,5 @@
 -- From a call's checks and writes to what it promises.
-use Rattle.std.proofs.Common.{◌≡◌, true, IsErrAnd, Some, None, Err, Option, Result, sym, ap, ◌∙◌, subst}
+use Rattle.std.proofs.Common.{◌≡◌, true, IsErrAnd, length, Some, None, Err, Option, Result, sym, ap, ◌∙◌, subst}
 use Rattle.std.proofs.lemmas.Result.{err_from_is_err_and}
 use Rattle.ledger.specs.Ledger.{Ledger, Call, declined, accepted, changing}
 use Rattle.refusals.specs.declared.refusal.Refusal.{Refusal}
@@ -7,7 +7,7 @@ use Rattle.ledger.specs.Run.{Answer, refused, Given, Answered}
 use Rattle.refusals.specs.declared.refusal.Refusal.{Refusal}
 use Rattle.inventory.specs.declared.inventory.Inventory.{Inventory}
 use Rattle.inventory.specs.View.{View, ledger_of, stored, written, Called}
-use Rattle.inventory.specs.Sound.{Sound, GoodSizes, NodeRoom, FlowRoom, StepRoom, GoodNodes, GoodFlows, Apart, GoodRows, BoundedRows, SilentRows, SettledLabels}
+use Rattle.inventory.specs.Sound.{Sound, GoodSizes, NodeRoom, FlowRoom, GoodNodes, GoodFlows, Apart, GoodRows, BoundedRows, SilentRows, SettledLabels}
 use Rattle.inventory.specs.Inventories.{view}
 use Rattle.inventory.specs.Checks.{refusal_of}
 use Rattle.inventory.proofs.Declines.{declined_is}
@@ -19,7 +19,6 @@ sound s = record {
   sized = s.sized;
   node_fits = s.node_fits;
   flow_fits = s.flow_fits;
-  step_fits = s.step_fits;
   nodes_good = s.nodes_good;
   flows_good = s.flows_good;
   flows_apart = s.flows_apart;
@@ -35,11 +34,10 @@ Parts v = record {
   sized : GoodSizes v.sizes;
   node_fits : NodeRoom v.nodes v.workspace v.node_count v.node_room;
   flow_fits : FlowRoom v.flows v.flow_count v.flow_room;
-  step_fits : StepRoom v.steps v.step_count;
   nodes_good : GoodNodes v.sizes v.nodes v.node_count;
-  flows_good : GoodFlows v.node_count v.step_count v.flows v.flow_count;
+  flows_good : GoodFlows v.node_count (length v.steps) v.flows v.flow_count;
   flows_apart : Apart v.flows v.flow_count;
-  rows_good : GoodRows v.sizes.types v.steps v.step_count;
+  rows_good : GoodRows v.sizes.types v.steps;
   rows_bounded : BoundedRows v.sizes.types v.steps;
   rows_silent : SilentRows v.sizes.types v.steps;
   labels_settled : SettledLabels v.nodes v.flows v.steps v.workspace v.node_count v.flow_count v.settled;
@@ -50,7 +48,6 @@ parts v s = record {
   sized = s.sized;
   node_fits = s.node_fits;
   flow_fits = s.flow_fits;
-  step_fits = s.step_fits;
   nodes_good = s.nodes_good;
   flows_good = s.flows_good;
   flows_apart = s.flows_apart;

@@ -1,16 +1,16 @@
 -- What settle leaves behind.
-use Rattle.std.proofs.Common.{◌≡◌, ℕ, zero, suc, ◌^◌, ◌<◌, ◌≤◌, true, List, [], ◌∷◌, ◌++◌, map, length, get_or, take, drop, sym, refl, ap, ◌∙◌, subst, arith}
+use Rattle.std.proofs.Common.{◌≡◌, ℕ, zero, suc, ◌^◌, ◌<◌, ◌≤◌, true, List, [], ◌∷◌, ◌++◌, map, length, get_or, take, drop, sym, refl, ap, ◌∙◌, subst, arith, Result, Ok, Err, IsOk, OnOk}
 use Rattle.policy.specs.Words.{in_range}
 use Rattle.ledger.specs.Ledger.{settle, after}
 use Rattle.flows.specs.declared.records.NodeRecord.{NodeRecord}
 use Rattle.inventory.specs.View.{View, made_of, ledger_of, node_of}
 use Rattle.flows.specs.Graph.{no_node}
-use Rattle.flows.specs.Graph.{graph}
+use Rattle.flows.specs.Graph.{graph, whole}
 use Rattle.inventory.specs.View.{graph_of}
 use Rattle.flows.specs.Certificate.{Certified}
 use Rattle.flows.specs.Fitting.{Fitting}
 use Rattle.flows.specs.Settled.{Relabeled, Beyond, Settled}
-use Rattle.flows.proofs.Firsts.{after_long, after_past, after_small, after_same, after_certified}
+use Rattle.flows.proofs.Firsts.{fits_first, after_long, after_past, after_small, after_same, after_certified}
 use Rattle.inventory.specs.Resettled.{Resettled}
 use Rattle.inventory.specs.Sound.{Sound, GoodNode}
 use Rattle.ledger.specs.Run.{LabelOf}
@@ -28,6 +28,10 @@ map_alike f d (suc n) (x ∷ xs) (y ∷ ys) fits long same =
     ap (λ z. z ∷ map f (take n ys)) (same 0 (omega arith))
     ∙ ap (λ l. f x ∷ l) (map_alike f d n xs ys (omega arith) (omega arith) (λ k l. same (suc k) (omega arith)))
 
+on_ok : {T E P : Type 0} (r : Result T E) → OnOk r P → IsOk r → P
+on_ok (Ok x) p is = p
+on_ok (Err e) p is = cc
+
 module _ (v : View) (s : Sound v) where
   pub fitting : Fitting (graph_of v) v.workspace
   fitting = record {
@@ -37,7 +41,7 @@ module _ (v : View) (s : Sound v) where
     flows_room = omega (arith, s.flow_fits.0, s.flow_fits.2);
     words_room = omega (arith, s.node_fits.0, s.node_fits.3);
     joined = joined v s;
-    stepped = λ f l. omega (arith, (s.flows_good f l).2, s.step_fits.0);
+    stepped = λ f l. (s.flows_good f l).2;
     bounded = bounded v s;
   }
 
@@ -45,7 +49,7 @@ module _ (v : View) (s : Sound v) where
   module _ (ns : List NodeRecord) (ws : List ℕ) (long : length ns ≡ length v.nodes) (words : length ws ≡ length v.workspace) (past : Beyond v.node_count v.workspace ws)
       (same : Relabeled v.node_count v.nodes ns) (all : Certified (graph ns v.flows v.steps v.node_count v.flow_count) ws) where
     abbrev pub settled_view : View
-    settled_view = made_of ns v.flows ws v.steps v.step_count v.node_count v.flow_count v.node_room v.flow_room v.sizes true
+    settled_view = made_of ns v.flows ws v.steps v.node_count v.flow_count v.node_room v.flow_room v.sizes true
 
     good_still : (k : ℕ) → k < v.node_count → GoodNode v.sizes (get_or ns k no_node)
     good_still k l =
@@ -62,7 +66,6 @@ module _ (v : View) (s : Sound v) where
       sized = s.sized;
       node_fits = (s.node_fits.0, s.node_fits.1, omega (arith, s.node_fits.2), omega (arith, s.node_fits.3));
       flow_fits = s.flow_fits;
-      step_fits = s.step_fits;
       nodes_good = good_still;
       flows_good = s.flows_good;
       flows_apart = s.flows_apart;
@@ -93,7 +96,6 @@ module _ (v : View) (s : Sound v) where
       workspace = past;
       workspace_long = words;
       steps = refl;
-      step_count = refl;
       node_count = refl;
       flow_count = refl;
       node_room = refl;
@@ -104,7 +106,7 @@ module _ (v : View) (s : Sound v) where
 
   -- what is left, with the flows as they came back
   abbrev pub After : List NodeRecord → List FlowRecord → List ℕ → View
-  After ns fl ws = made_of ns fl ws v.steps v.step_count v.node_count v.flow_count v.node_room v.flow_room v.sizes true
+  After ns fl ws = made_of ns fl ws v.steps v.node_count v.flow_count v.node_room v.flow_room v.sizes true
 
   abbrev pub SettledAgain : View → Type 0
   SettledAgain w =
@@ -120,12 +122,28 @@ module _ (v : View) (s : Sound v) where
       subst (λ (x : List FlowRecord). SettledAgain (After ns x ws)) (sym is)
       (sound, settled_ledger ns ws long words past same here, (λ n l. label_right (After ns v.flows ws) sound here n l (small n l)), settled_rest ns ws long words past same here)
 
-  -- what was settled over the first nodes and flows
-  pub settled_firsts : (ns : List NodeRecord) (ws : List ℕ)
-      → Settled (take v.flow_count v.flows) v.steps (length (take v.node_count v.nodes)) (length (take v.flow_count v.flows)) (take v.node_count v.nodes) ns v.workspace ws
-      → SettledAgain (After (ns ++ drop v.node_count v.nodes) v.flows ws)
+  abbrev first_nodes : List NodeRecord
+  first_nodes = take v.node_count v.nodes
+
+  abbrev first_flows : List FlowRecord
+  first_flows = take v.flow_count v.flows
+
+  -- the first nodes and flows were settled by these steps
+  abbrev SettledBy : List (List ℕ) → List NodeRecord → List ℕ → Type 0
+  SettledBy rows ns ws = Settled first_flows rows (length first_nodes) (length first_flows) first_nodes ns v.workspace ws
+
+  settled_firsts : (ns : List NodeRecord) (ws : List ℕ) → SettledBy v.steps ns ws → SettledAgain (After (ns ++ drop v.node_count v.nodes) v.flows ws)
   settled_firsts ns ws done =
       let nodes = fitting.nodes_room in
       let flows = fitting.flows_room in
       settled_again (ns ++ drop v.node_count v.nodes) v.flows ws (after_long _ _ _ _ _ _ nodes flows _ _ done) done.words_long (after_past _ _ _ _ _ _ nodes flows _ _ done) refl
       (after_same _ _ _ _ _ _ nodes flows _ _ done) (after_certified _ _ _ _ _ _ nodes flows _ _ done) (after_small _ _ _ _ _ _ nodes flows _ _ done)
+
+  -- what was settled, where it was not refused, since all fits
+  pub spread_again : {T E : Type 0} (r : Result T E) (rows : List (List ℕ)) (ns : List NodeRecord) (ws : List ℕ) → rows ≡ v.steps
+      → (Fitting (whole first_nodes first_flows rows) v.workspace → IsOk r) → OnOk r (SettledBy rows ns ws)
+      → SettledAgain (After (ns ++ drop v.node_count v.nodes) v.flows ws)
+  spread_again r rows ns ws is ok done =
+      let fit = subst (λ (x : List (List ℕ)). Fitting (whole first_nodes first_flows x) v.workspace) (sym is)
+      (fits_first _ _ _ _ _ _ fitting.nodes_room fitting.flows_room fitting) in
+      settled_firsts ns ws (subst (λ (x : List (List ℕ)). SettledBy x ns ws) is (on_ok r done (ok fit)))

@@ -1,7 +1,7 @@
 -- Rows of steps.
-use Rattle.std.proofs.Common.{◌≡◌, ℕ, zero, suc, ◌-◌, ◌<◌, ◌≤◌, true, ◌&&◌, eqb, ltb, List, [], ◌++◌, length, get_or, set, replicate, sym, refl, ap, ◌∙◌, ⊎_elim, zero-add, arith, take}
-use Rattle.std.proofs.lemmas.List.{get_or_append_left, get_or-append_right, get_or-set_same, get_or-set_other}
-use Rattle.std.proofs.lemmas.Bool.{and_from, and_parts, cases_eq, cases_lt, eq-eqb, ltb-true, lt-ltb}
+use Rattle.std.proofs.Common.{◌≡◌, ℕ, zero, suc, ◌-◌, ◌<◌, ◌≤◌, true, ◌&&◌, eqb, ltb, List, ◌++◌, length, get_or, replicate, sym, refl, ap, ◌∙◌, ⊎_elim, zero-add, arith, take}
+use Rattle.std.proofs.lemmas.List.{get_or_append_left, get_or-append_right}
+use Rattle.std.proofs.lemmas.Bool.{and_from, and_parts, cases_lt, eq-eqb, ltb-true, lt-ltb}
 use Rattle.std.specs.List.{list_all}
 use Rattle.std.proofs.lemmas.List.Sums.{AllPass-from_list_all, list_all-from_AllPass}
 use Rattle.std.proofs.lemmas.List.FromFn.{length-range_with_len, get_or-range_with_len, take-map-range_with_len, fill_by_all}
@@ -11,11 +11,6 @@ get_or_zeros : (m i : ℕ) → get_or (replicate {A = ℕ} m 0) i 0 ≡ 0
 get_or_zeros zero i = refl
 get_or_zeros (suc m) zero = refl
 get_or_zeros (suc m) (suc i) = get_or_zeros m i
-
-pub zero_table : (m t v : ℕ) → get_or (get_or (replicate m (replicate {A = ℕ} 64 0)) t []) v 0 ≡ 0
-zero_table zero t v = refl
-zero_table (suc m) zero v = get_or_zeros 64 v
-zero_table (suc m) (suc t) v = zero_table m t v
 
 -- the identity is a good row
 pub counting_good : (n : ℕ) → 0 < n → good_row n (counting n) ≡ true
@@ -34,36 +29,22 @@ identity_row values n long each low =
     ∙ sym (fill_by_all (λ k. k) (counting n) n 0 (length-range_with_len 0 n) (λ k l. get_or-range_with_len 0 n k 0 l ∙ zero-add k)) in
     ap (λ l. l ++ replicate (64 - length l) 0) front ∙ ap (λ k. counting n ++ replicate (64 - k) 0) (length-range_with_len 0 n)
 
--- an entry of a table of which one row is written anew
-module _ (n : ℕ) (rows : List (List ℕ)) (k : ℕ) (row : List ℕ) (within : k < length rows) where
+-- the entries of a row with zeros behind it
+module _ (n : ℕ) (row : List ℕ) (long : length row ≡ n) where
   abbrev padded_row : List ℕ
   padded_row = row ++ replicate (64 - length row) 0
 
-  behind : (v : ℕ) → length row ≤ v → get_or padded_row v 0 ≡ 0
-  behind v past =
-      get_or-append_right row (replicate (64 - length row) 0) (length row) v 0 refl past ∙ get_or_zeros (64 - length row) (v - length row)
+  pub padded_silent : (v : ℕ) → n ≤ v → get_or padded_row v 0 ≡ 0
+  padded_silent v past =
+      get_or-append_right row (replicate (64 - length row) 0) (length row) v 0 refl (omega arith) ∙ get_or_zeros (64 - length row) (v - length row)
 
-  pub padded_silent : length row ≡ n → ((t v : ℕ) → n ≤ v → get_or (get_or rows t []) v 0 ≡ 0)
-      → (t v : ℕ) → n ≤ v → get_or (get_or (set rows k padded_row) t []) v 0 ≡ 0
-  padded_silent long old t v past =
-      ⊎_elim
-      (λ e. ap (λ r. get_or r v 0) (ap (λ i. get_or (set rows k padded_row) i []) e ∙ get_or-set_same rows k padded_row [] within) ∙ behind v (omega arith))
-      (λ ne. ap (λ r. get_or r v 0) (get_or-set_other rows k t padded_row [] ne) ∙ old t v past)
-      (cases_eq t k)
-
-  pub padded_bounded : good_row n row ≡ true → length row ≡ n → 0 < n → ((t v : ℕ) → get_or (get_or rows t []) v 0 < n)
-      → (t v : ℕ) → get_or (get_or (set rows k padded_row) t []) v 0 < n
-  padded_bounded good long some old t v =
-      ⊎_elim
-      (λ e. let read : get_or (get_or (set rows k padded_row) t []) v 0 ≡ get_or padded_row v 0 =
-      ap (λ r. get_or r v 0) (ap (λ i. get_or (set rows k padded_row) i []) e ∙ get_or-set_same rows k padded_row [] within) in
+  pub padded_bounded : good_row n row ≡ true → 0 < n → (v : ℕ) → get_or padded_row v 0 < n
+  padded_bounded good some v =
       ⊎_elim
       (λ low. let here : get_or padded_row v 0 ≡ get_or row v 0 = get_or_append_left row (replicate (64 - length row) 0) 0 v low in
       let small : get_or row v 0 < n =
       ltb-true (get_or row v 0) n (AllPass-from_list_all (λ x. ltb x n) row
       (and_parts (eqb (length row) n && eqb (get_or row 0 0) 0) (list_all (λ x. ltb x n) row) good).1 v 0 low) in
       omega arith)
-      (λ past. omega (arith, behind v past))
-      (cases_lt v (length row)))
-      (λ ne. let read = ap (λ r. get_or r v 0) (get_or-set_other rows k t padded_row [] ne) in omega (arith, old t v))
-      (cases_eq t k)
+      (λ past. omega (arith, padded_silent v (omega arith)))
+      (cases_lt v (length row))

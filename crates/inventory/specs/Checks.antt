@@ -1,5 +1,5 @@
 -- Why a call is declined, by the counts of a view. The proofs show that this is what the ledger says.
-use Rattle.std.specs.Prelude.{ℕ, not, ◌&&◌, None, Option, nat_lt}
+use Rattle.std.specs.Prelude.{ℕ, not, ◌&&◌, length, None, Option, nat_lt}
 use Rattle.refusals.specs.declared.refusal.Reason.TheVariants.{NoNode, NoStep, BadArgument, FlowStands, NoFlow, NoRoom, Unsettled, SizesDiffer}
 use Rattle.policy.specs.Words.{in_range}
 use Rattle.lattice.specs.declared.sizes.Sizes.{Sizes}
@@ -13,7 +13,7 @@ use Rattle.inventory.specs.View.{View, flows_of}
 abbrev pub ends_there : View → ℕ → ℕ → ℕ → Option Refusal → Option Refusal
 ends_there v a b s rest =
     or_else (unless (nat_lt a v.node_count) NoNode a) (or_else (unless (nat_lt b v.node_count) NoNode b)
-    (or_else (unless (nat_lt s v.step_count) NoStep s) rest))
+    (or_else (unless (nat_lt s (length v.steps)) NoStep s) rest))
 
 -- why a judgement is declined, by the sizes of the lattices and of the policy
 abbrev pub judge_refusal : View → ℕ → Sizes → Sizes → Option Refusal
@@ -25,7 +25,7 @@ abbrev pub refusal_of : View → Call → Option Refusal
 refusal_of v (enter a b c) =
     or_else (unless (in_range v.sizes.store a && (in_range v.sizes.purpose b && in_range v.sizes.role c)) BadArgument 0)
     (unless (nat_lt v.node_count v.node_room) NoRoom 0)
-refusal_of v (step row) = or_else (unless (good_row v.sizes.types row) BadArgument 0) (unless (nat_lt v.step_count 32) NoRoom 0)
+refusal_of v (step row) = or_else (unless (good_row v.sizes.types row) BadArgument 0) (unless (nat_lt (length v.steps) 32) NoRoom 0)
 refusal_of v (mark n x) = or_else (unless (nat_lt n v.node_count) NoNode n) (unless (good_value v.sizes.types x) BadArgument 0)
 refusal_of v (unmark n x) = or_else (unless (nat_lt n v.node_count) NoNode n) (unless (good_value v.sizes.types x) BadArgument 0)
 refusal_of v (verify n b) = unless (nat_lt n v.node_count) NoNode n

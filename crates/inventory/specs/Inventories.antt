@@ -6,8 +6,8 @@ use Rattle.inventory.specs.declared.inventory.Inventory.{Inventory}
 
 abbrev pub view : Inventory → View
 view s =
-    made_of s.nodes.now s.flows.now s.workspace.now s.steps
-    s.step_count s.node_count s.flow_count s.node_room s.flow_room s.sizes s.settled
+    made_of s.nodes.now s.flows.now s.workspace.now s.steps.items
+    s.node_count s.flow_count s.node_room s.flow_room s.sizes s.settled
 
 abbrev pub ledger : Inventory → Ledger
 ledger s = ledger_of (view s)

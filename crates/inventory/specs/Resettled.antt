@@ -10,7 +10,6 @@ pub record Resettled (before after : View) : Type 0 where
   pub workspace : Beyond before.node_count before.workspace after.workspace
   pub workspace_long : length after.workspace ≡ length before.workspace
   pub steps : after.steps ≡ before.steps
-  pub step_count : after.step_count ≡ before.step_count
   pub node_count : after.node_count ≡ before.node_count
   pub flow_count : after.flow_count ≡ before.flow_count
   pub node_room : after.node_room ≡ before.node_room

@@ -24,9 +24,6 @@ NodeRoom nodes words count room = (count ≤ room) × (room ≤ 4096) × (room �
 abbrev pub FlowRoom : List FlowRecord → ℕ → ℕ → Type 0
 FlowRoom flows count room = (count ≤ room) × (room ≤ 16384) × (room ≤ length flows)
 
-abbrev pub StepRoom : List (List ℕ) → ℕ → Type 0
-StepRoom rows count = (count ≤ 32) × (length rows ≡ 32)
-
 -- declared sets and marks are in range
 abbrev pub GoodNode : Sizes → NodeRecord → Type 0
 GoodNode z r =
@@ -47,8 +44,8 @@ GoodFlows nodes steps flows count = (k : ℕ) → k < count → GoodFlow nodes s
 abbrev pub Apart : List FlowRecord → ℕ → Type 0
 Apart flows count = (i j : ℕ) → (i < count) × (j < count) × (slice_index_or flows i no_flow ≡ slice_index_or flows j no_flow) → i ≡ j
 
-abbrev pub GoodRows : ℕ → List (List ℕ) → ℕ → Type 0
-GoodRows types rows count = (k : ℕ) → k < count → good_row types (take types (slice_index_or rows k [])) ≡ true
+abbrev pub GoodRows : ℕ → List (List ℕ) → Type 0
+GoodRows types rows = (k : ℕ) → k < length rows → good_row types (take types (slice_index_or rows k [])) ≡ true
 
 -- every entry of the table of steps is a value, and those past the last value are 0
 abbrev pub BoundedRows : ℕ → List (List ℕ) → Type 0
@@ -67,11 +64,10 @@ pub record Sound (v : View) : Type 0 where
   pub sized : GoodSizes v.sizes
   pub node_fits : NodeRoom v.nodes v.workspace v.node_count v.node_room
   pub flow_fits : FlowRoom v.flows v.flow_count v.flow_room
-  pub step_fits : StepRoom v.steps v.step_count
   pub nodes_good : GoodNodes v.sizes v.nodes v.node_count
-  pub flows_good : GoodFlows v.node_count v.step_count v.flows v.flow_count
+  pub flows_good : GoodFlows v.node_count (length v.steps) v.flows v.flow_count
   pub flows_apart : Apart v.flows v.flow_count
-  pub rows_good : GoodRows v.sizes.types v.steps v.step_count
+  pub rows_good : GoodRows v.sizes.types v.steps
   pub rows_bounded : BoundedRows v.sizes.types v.steps
   pub rows_silent : SilentRows v.sizes.types v.steps
   pub labels_settled : SettledLabels v.nodes v.flows v.steps v.workspace v.node_count v.flow_count v.settled

@@ -1,5 +1,5 @@
 -- All that an inventory keeps in memory, part by part; the ledger that is read off it; and what each call writes.
-use Rattle.std.specs.Prelude.{◌≡◌, ℕ, ◌+◌, ◌-◌, ◌/◌, min, Bool, true, false, List, ◌++◌, map, length, take, replicate, Some, None, Option, slice_index_or, slice_set}
+use Rattle.std.specs.Prelude.{◌≡◌, ℕ, ◌+◌, ◌-◌, ◌/◌, min, Bool, true, false, List, [], ◌∷◌, ◌++◌, map, length, take, replicate, Some, None, Option, slice_index_or, slice_set}
 use Rattle.flows.specs.Graph.{Graph, graph, no_node, no_flow}
 use Rattle.flows.specs.declared.records.NodeRecord.{NodeRecord}
 use Rattle.flows.specs.declared.records.FlowRecord.{FlowRecord}
@@ -14,7 +14,6 @@ pub record View : Type 0 where
   pub flows : List FlowRecord
   pub workspace : List ℕ
   pub steps : List (List ℕ)
-  pub step_count : ℕ
   pub node_count : ℕ
   pub flow_count : ℕ
   pub node_room : ℕ
@@ -22,13 +21,12 @@ pub record View : Type 0 where
   pub sizes : Sizes
   pub settled : Bool
 
-abbrev pub made_of : List NodeRecord → List FlowRecord → List ℕ → List (List ℕ) → ℕ → ℕ → ℕ → ℕ → ℕ → Sizes → Bool → View
-made_of ns fs ws rows sc nc fc nr fr z b = record {
+abbrev pub made_of : List NodeRecord → List FlowRecord → List ℕ → List (List ℕ) → ℕ → ℕ → ℕ → ℕ → Sizes → Bool → View
+made_of ns fs ws rows nc fc nr fr z b = record {
   nodes = ns;
   flows = fs;
   workspace = ws;
   steps = rows;
-  step_count = sc;
   node_count = nc;
   flow_count = fc;
   node_room = nr;
@@ -56,7 +54,7 @@ abbrev pub flows_of : View → List Flow
 flows_of v = map flow_of (take v.flow_count v.flows)
 
 abbrev pub steps_of : View → List (List ℕ)
-steps_of v = map (take v.sizes.types) (take v.step_count v.steps)
+steps_of v = map (take v.sizes.types) v.steps
 
 unfoldable pub ledger_of : View → Ledger
 ledger_of v = record {
@@ -81,23 +79,23 @@ no_flow_yet = record { from = 0; to = 0; step = 0 }
 -- A new inventory: the memory as handed over, and the identity as its one step
 
 abbrev pub first_steps : ℕ → List (List ℕ)
-first_steps n = slice_set (replicate 32 (replicate 64 0)) 0 (counting n ++ replicate (64 - n) 0)
+first_steps n = (counting n ++ replicate (64 - n) 0) ∷ []
 
 abbrev pub made_new : Sizes → List NodeRecord → List FlowRecord → List ℕ → View
 made_new z ns fs ws =
-    made_of ns fs ws (first_steps (nearest_size z.types)) 1 0 0 (min 4096 (min (length ns) (length ws / 128))) (min 16384 (length fs)) (nearest_sizes z) true
+    made_of ns fs ws (first_steps (nearest_size z.types)) 0 0 (min 4096 (min (length ns) (length ws / 128))) (min 16384 (length fs)) (nearest_sizes z) true
 
 -- What an accepted call writes
 
 -- the node records and their count
 abbrev pub put_nodes : View → List NodeRecord → ℕ → View
-put_nodes v ns n = made_of ns v.flows v.workspace v.steps v.step_count n v.flow_count v.node_room v.flow_room v.sizes false
+put_nodes v ns n = made_of ns v.flows v.workspace v.steps n v.flow_count v.node_room v.flow_room v.sizes false
 
 abbrev pub put_flows : View → List FlowRecord → ℕ → View
-put_flows v fs n = made_of v.nodes fs v.workspace v.steps v.step_count v.node_count n v.node_room v.flow_room v.sizes false
+put_flows v fs n = made_of v.nodes fs v.workspace v.steps v.node_count n v.node_room v.flow_room v.sizes false
 
-abbrev pub put_steps : View → List (List ℕ) → ℕ → View
-put_steps v rows n = made_of v.nodes v.flows v.workspace rows n v.node_count v.flow_count v.node_room v.flow_room v.sizes false
+abbrev pub put_steps : View → List (List ℕ) → View
+put_steps v rows = made_of v.nodes v.flows v.workspace rows v.node_count v.flow_count v.node_room v.flow_room v.sizes false
 
 abbrev pub entered : ℕ → ℕ → ℕ → NodeRecord
 entered a b c = record { store = a; purpose = b; role = c; marks = 0; label = 0; verified = false }
@@ -128,7 +126,7 @@ without_flow v None = put_flows v v.flows v.flow_count
 
 unfoldable pub stored : View → Call → View
 stored v (enter a b c) = put_nodes v (slice_set v.nodes v.node_count (entered a b c)) (v.node_count + 1)
-stored v (step row) = put_steps v (slice_set v.steps v.step_count (row ++ replicate (64 - length row) 0)) (v.step_count + 1)
+stored v (step row) = put_steps v (v.steps ++ (row ++ replicate (64 - length row) 0) ∷ [])
 stored v (mark n x) = put_nodes v (slice_set v.nodes n (remarked (record_at v n) (with (record_at v n).marks x))) v.node_count
 stored v (unmark n x) = put_nodes v (slice_set v.nodes n (remarked (record_at v n) (without (record_at v n).marks x))) v.node_count
 stored v (verify n b) = put_nodes v (slice_set v.nodes n (reverified (record_at v n) b)) v.node_count

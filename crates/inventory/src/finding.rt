@@ -6,8 +6,8 @@ ghost use Rattle.inventory.specs.View.{flow_of};
 
 use flows::FlowRecord;
 
-// The number of the first flow that is this one.
-pub(crate) fn number(flows: &[FlowRecord], flow: FlowRecord) -> Option<usize>
+/// The number of the first flow that is this one.
+pub(crate) fn flow_number(flows: &[FlowRecord], flow: FlowRecord) -> Option<usize>
     ensures { result ≡ position (λ r. same_flow (flow_of r) flow.«from» flow.to flow.step) flows.now }
 {
     flows.iter().position(|other| *other == flow)

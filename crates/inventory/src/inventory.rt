@@ -1,6 +1,8 @@
 //! The struct with its invariant, in a file of its own: it imports every `ghost use` of its file.
-ghost use Rattle.inventory.specs.Sound.{GoodSizes, NodeRoom, FlowRoom, StepRoom, GoodNodes, GoodFlows, Apart, GoodRows, BoundedRows, SilentRows, SettledLabels};
+ghost use Rattle.std.specs.Prelude.{length};
+ghost use Rattle.inventory.specs.Sound.{GoodSizes, NodeRoom, FlowRoom, GoodNodes, GoodFlows, Apart, GoodRows, BoundedRows, SilentRows, SettledLabels};
 
+use arrayvec::ArrayVec;
 use flows::{FlowRecord, NodeRecord};
 use lattice::Sizes;
 
@@ -18,9 +20,7 @@ pub struct Inventory<'a> {
     nodes: &'a mut [NodeRecord],
     flows: &'a mut [FlowRecord],
     workspace: &'a mut [u32],
-    // All 32 rows stand in fixed memory, since `flows::spread` reads the whole table.
-    steps: [[u8; 64]; 32],
-    step_count: usize,
+    steps: ArrayVec<[u8; 64], 32>,
     node_count: usize,
     flow_count: usize,
     node_room: usize,
@@ -30,12 +30,11 @@ pub struct Inventory<'a> {
     ghost sized: { GoodSizes sizes },
     ghost node_fits: { NodeRoom nodes.now workspace.now node_count node_room },
     ghost flow_fits: { FlowRoom flows.now flow_count flow_room },
-    ghost step_fits: { StepRoom steps step_count },
     ghost nodes_good: { GoodNodes sizes nodes.now node_count },
-    ghost flows_good: { GoodFlows node_count step_count flows.now flow_count },
+    ghost flows_good: { GoodFlows node_count (length steps.items) flows.now flow_count },
     ghost flows_apart: { Apart flows.now flow_count },
-    ghost rows_good: { GoodRows sizes.types steps step_count },
-    ghost rows_bounded: { BoundedRows sizes.types steps },
-    ghost rows_silent: { SilentRows sizes.types steps },
-    ghost labels_settled: { SettledLabels nodes.now flows.now steps workspace.now node_count flow_count settled },
+    ghost rows_good: { GoodRows sizes.types steps.items },
+    ghost rows_bounded: { BoundedRows sizes.types steps.items },
+    ghost rows_silent: { SilentRows sizes.types steps.items },
+    ghost labels_settled: { SettledLabels nodes.now flows.now steps.items workspace.now node_count flow_count settled },
 }

@@ -4,14 +4,16 @@ ghost use Rattle.std.specs.List.{list_all};
 ghost use Rattle.ledger.specs.Ledger.{good_row, counting};
 ghost use Rattle.inventory.specs.View.{first_steps};
 
-// Whether each entry is a value.
+use arrayvec::ArrayVec;
+
+/// Whether each entry is a value.
 fn all_values(size: u8, row: &[u8]) -> bool
     ensures { result ≡ list_all (λ v. nat_lt v size) row.now }
 {
     row.iter().all(|value| *value < size)
 }
 
-// A row has an entry for each value, each a value, and 0 becomes 0.
+/// Whether the row has an entry for each value, each a value, and 0 becomes 0.
 pub(crate) fn good_row(size: u8, row: &[u8]) -> bool
     requires { 2 ≤ size }
     ensures { result ≡ good_row size row.now }
@@ -19,7 +21,7 @@ pub(crate) fn good_row(size: u8, row: &[u8]) -> bool
     row.len() == size as usize && row[0] == 0 && all_values(size, row)
 }
 
-// The row with zeros behind it.
+/// The row with zeros behind it.
 pub(crate) fn padded(row: &[u8]) -> [u8; 64]
     requires { length row.now ≤ 64 }
     ensures { result ≡ row.now ++ replicate (64 - length row.now) 0 }
@@ -29,8 +31,8 @@ pub(crate) fn padded(row: &[u8]) -> [u8; 64]
     all
 }
 
-// The row that leaves each value as it is, with zeros behind it.
-pub(crate) fn identity(size: u8) -> [u8; 64]
+/// The row that leaves each value as it is, with zeros behind it.
+fn identity(size: u8) -> [u8; 64]
     requires { size ≤ 64 }
     ensures { result ≡ counting size ++ replicate (64 - size) 0 }
 {
@@ -38,12 +40,12 @@ pub(crate) fn identity(size: u8) -> [u8; 64]
     padded(&values[..size as usize])
 }
 
-// The rows of a new inventory: the identity alone.
-pub(crate) fn first_steps(size: u8) -> [[u8; 64]; 32]
+/// The rows of a new inventory: the identity alone.
+pub(crate) fn first_steps(size: u8) -> ArrayVec<[u8; 64], 32>
     requires { size ≤ 64 }
-    ensures { result ≡ first_steps size }
+    ensures { result.items ≡ first_steps size }
 {
-    let mut steps = [[0; 64]; 32];
-    steps[0] = identity(size);
+    let mut steps = ArrayVec::new();
+    steps.push(identity(size));
     steps
 }

@@ -2,7 +2,7 @@
 ghost use Rattle.std.specs.Prelude.{◌≡◌, ◌≤◌};
 ghost use Rattle.policy.specs.Words.{in_range};
 
-// Every value of the set is from 1 to the size less 1.
+/// Whether every value of the set is from 1 to the size less 1.
 pub(crate) fn in_range(size: u8, set: u64) -> bool
     requires { size ≤ 64 }
     ensures { result ≡ in_range size set }

@@ -5,6 +5,7 @@ ghost use Rattle.inventory.specs.View.{nearest_sizes};
 
 use lattice::Sizes;
 
+/// The size from 2 to 64 that is nearest.
 fn nearest(size: u8) -> u8
     ensures { result ≡ nearest_size size }
 {

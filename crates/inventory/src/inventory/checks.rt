@@ -13,6 +13,7 @@ use flows::FlowRecord;
 use lattice::{Reason, Refusal, Sizes};
 
 impl Inventory<'_> {
+    /// Whether a node with these values can be entered.
     pub(super) fn check_enter(&self, store: u64, purpose: u64, role: u64) -> Result<(), Refusal>
         ensures { declined_by result ≡ refusal_of (view self.now) (entering store purpose role) }
     {
@@ -29,18 +30,20 @@ impl Inventory<'_> {
         Ok(())
     }
 
+    /// Whether a step with this row can be taken.
     pub(super) fn check_step(&self, row: &[u8]) -> Result<(), Refusal>
         ensures { declined_by result ≡ refusal_of (view self.now) (stepping row.now) }
     {
         if !rows::good_row(self.sizes.types, row) {
             return Err(Reason::BadArgument.at(0));
         }
-        if self.step_count >= 32 {
+        if self.steps.is_full() {
             return Err(Reason::NoRoom.at(0));
         }
         Ok(())
     }
 
+    /// Whether the node is there.
     pub(super) fn check_node(&self, node: usize) -> Result<(), Refusal>
         ensures { declined_by result ≡ refusal_of (view self.now) (verifying node true) }
     {
@@ -50,7 +53,7 @@ impl Inventory<'_> {
         Ok(())
     }
 
-    // Whether the node is there, and the value is one that a node can be marked with.
+    /// Whether the node is there, and the value is one that a node can be marked with.
     pub(super) fn check_value(&self, node: usize, value: u8) -> Result<(), Refusal>
         ensures { declined_by result ≡ refusal_of (view self.now) (marking node value) }
     {
@@ -61,6 +64,7 @@ impl Inventory<'_> {
         Ok(())
     }
 
+    /// Whether the labels are what the flows make of the marks.
     fn check_settled(&self) -> Result<(), Refusal>
         ensures { declined_by result ≡ unless (view self.now).settled Unsettled 0 }
     {
@@ -70,6 +74,7 @@ impl Inventory<'_> {
         Ok(())
     }
 
+    /// Whether it can be asked how the value comes to the node.
     pub(super) fn check_path(&self, node: usize, value: u8) -> Result<(), Refusal>
         ensures { declined_by result ≡ refusal_of (view self.now) (asking node value 0) }
     {
@@ -77,6 +82,7 @@ impl Inventory<'_> {
         self.check_settled()
     }
 
+    /// Whether a node can be judged by lattices and a policy of these sizes.
     pub(super) fn check_judge(
         &self,
         node: usize,
@@ -93,14 +99,14 @@ impl Inventory<'_> {
         Ok(())
     }
 
-    // The record of a flow, where its nodes and its step are there.
+    /// The record of a flow, where its nodes and its step are there.
     fn check_ends(&self, from: usize, to: usize, step: usize) -> Result<FlowRecord, Refusal>
         ensures declined { declined_by result ≡ ends_there (view self.now) from to step None }
         ensures drawn { IfOk result (λ r. r ≡ drawn from to step) }
     {
         self.check_node(from)?;
         self.check_node(to)?;
-        if step >= self.step_count {
+        if step >= self.steps.len() {
             return Err(Reason::NoStep.at(step));
         }
         Ok(FlowRecord {
@@ -110,14 +116,14 @@ impl Inventory<'_> {
         })
     }
 
-    // The number of a flow, where it stands.
+    /// The number of a flow, where it stands.
     fn find(&self, flow: FlowRecord) -> Option<usize>
         ensures { result ≡ flow_number (flows_of (view self.now)) flow.«from» flow.to flow.step }
     {
-        finding::number(&self.flows[..self.flow_count], flow)
+        finding::flow_number(&self.flows[..self.flow_count], flow)
     }
 
-    // The record of the flow to draw.
+    /// The record of the flow to draw.
     pub(super) fn check_draw(
         &self,
         from: usize,
@@ -137,7 +143,7 @@ impl Inventory<'_> {
         Ok(flow)
     }
 
-    // The number of the flow to strike out.
+    /// The number of the flow to strike out.
     pub(super) fn check_strike(&self, from: usize, to: usize, step: usize) -> Result<usize, Refusal>
         ensures declined { declined_by result ≡ refusal_of (view self.now) (striking from to step) }
         ensures number { IfOk result (λ k. (flow_number (flows_of (view self.now)) from to step ≡ Some k) × (k < self.now.flow_count)) }

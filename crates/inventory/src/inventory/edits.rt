@@ -34,9 +34,8 @@ impl Inventory<'_> {
         ensures lent { SameMemory self.old self.new }
     {
         self.check_step(row)?;
-        let number = self.step_count;
-        self.steps[number] = rows::padded(row);
-        self.step_count = number + 1;
+        let number = self.steps.len();
+        self.steps.push(rows::padded(row));
         self.settled = false;
         Ok(number)
     }

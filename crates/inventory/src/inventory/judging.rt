@@ -13,7 +13,7 @@ use flows::NodeRecord;
 use lattice::Refusal;
 use policy::{Label, Policy, Verdict, Vocabulary};
 
-// What is declared of a node, with the data types that reach it.
+/// What is declared of a node, with the data types that reach it.
 fn held(node: NodeRecord) -> Label
     ensures label { result ≡ held_of node }
     ensures small { node.label < 2 ^ 64 }

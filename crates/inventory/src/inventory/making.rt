@@ -42,7 +42,6 @@ impl<'a> Inventory<'a> {
             flows,
             workspace,
             steps: rows::first_steps(sizes.types),
-            step_count: 1,
             node_count: 0,
             flow_count: 0,
             node_room,
@@ -65,14 +64,7 @@ impl<'a> Inventory<'a> {
             nodes,
             flows,
             workspace,
-            steps: _,
-            step_count: _,
-            node_count: _,
-            flow_count: _,
-            node_room: _,
-            flow_room: _,
-            sizes: _,
-            settled: _,
+            ..
         } = self;
         Lent {
             nodes,

@@ -10,7 +10,7 @@ use super::Inventory;
 use lattice::Sizes;
 
 impl<'a> Inventory<'a> {
-    // An inventory over no memory: what stands in another's place while that is settled.
+    /// An inventory over no memory: what stands in another's place while that is settled.
     fn empty() -> Self {
         let sizes = Sizes {
             store: 2,
@@ -21,7 +21,7 @@ impl<'a> Inventory<'a> {
         Inventory::new(sizes, &mut [], &mut [], &mut [])
     }
 
-    // The inventory settled. It is taken apart, since its pieces of memory are lent together.
+    /// The inventory settled. It is taken apart, since its pieces of memory are lent together.
     fn resettled(self) -> Self
         ensures ledger { ledger result ≡ after (ledger self.entry) settling }
         ensures labels { (n : ℕ) → n < result.node_count → LabelOf (ledger result) n (record_at (view result) n).label }
@@ -33,7 +33,6 @@ impl<'a> Inventory<'a> {
             flows,
             workspace,
             steps,
-            step_count,
             node_count,
             flow_count,
             node_room,
@@ -46,14 +45,13 @@ impl<'a> Inventory<'a> {
             &mut nodes[..node_count],
             workspace,
             &flows[..flow_count],
-            &steps,
+            steps.as_slice(),
         );
         Inventory {
             nodes,
             flows,
             workspace,
             steps,
-            step_count,
             node_count,
             flow_count,
             node_room,

@@ -5,4 +5,4 @@ use Rattle.inventory.proofs.Found.{position_map}
 use Rattle.inventory.proofs.inventory.Inventory.find.Goals as goal
 
 pub returns : goal.returns
-returns c = c.number.ensures ∙ position_map flow_of (λ g. same_flow g c.args.flow.from c.args.flow.to c.args.flow.step) _
+returns c = c.flow_number.ensures ∙ position_map flow_of (λ g. same_flow g c.args.flow.from c.args.flow.to c.args.flow.step) _

@@ -10,7 +10,7 @@ returns-in_err-check_step-clause-called c =
     exit c.args.self.now (step c.args.row.now) number_answer (λ e. refl) _ _ c.in_err-check_step.ensures c.from_residual.ensures.1
 
 pub invariant_of-self : goal.invariant_of-self
-invariant_of-self c = (stepped_kept c.args.self.now c.args.row.now c.padded.result c.in_ok-check_step.ensures c.padded.ensures).0
+invariant_of-self c = (stepped_kept c.args.self.now c.args.row.now c.padded.result _ _ c.in_ok-check_step.ensures c.len-number.ensures.value c.padded.ensures c.push.ensures.items).0
 
 pub returns-clause-called : goal.returns-clause-called
-returns-clause-called c = (stepped_kept c.args.self.now c.args.row.now c.padded.result c.in_ok-check_step.ensures c.padded.ensures).1
+returns-clause-called c = (stepped_kept c.args.self.now c.args.row.now c.padded.result _ _ c.in_ok-check_step.ensures c.len-number.ensures.value c.padded.ensures c.push.ensures.items).1
