@@ -40,58 +40,65 @@ fn front(row: &[u8; 64], len: usize) -> &[u8]
     &row[..len.min(64)]
 }
 
-// A node judged by the scheme and the policy of these numbers, where both were handed over.
-fn judge_by<V: Vocabulary>(
-    inventory: &Inventory,
-    schemes: &[V],
-    policies: &[Policy],
-    node: usize,
-    scheme: usize,
-    policy: usize,
-) -> Option<Answer>
-    ensures { One (view inventory.now) (view inventory.now) (judged_by V.Vocabulary.orders schemes.now policies.now node scheme policy) result }
-{
-    let scheme = schemes.get(scheme)?;
-    let policy = policies.get(policy)?;
-    Some(inventory.judge(node, scheme, policy).into())
+// The schemes and the policies that a run is handed: a call names one by its number.
+#[derive(Drop)]
+struct Handed<'a, V> {
+    schemes: &'a [V],
+    policies: &'a [Policy],
 }
 
-// One call: a function of its own, so that the loop has one way.
-fn make<V: Vocabulary>(
-    heap: Global,
-    inventory: &mut Inventory,
-    schemes: &[V],
-    policies: &[Policy],
-    call: &Call,
-) -> Result<Option<Answer>, AllocError>
-    ensures one { IfOk result (One (view inventory.old) (view inventory.new) (named V.Vocabulary.orders schemes.now policies.now call.now)) }
-    ensures failed { OnErr result (view inventory.new ≡ view inventory.old) }
-    ensures lent { SameMemory inventory.old inventory.new }
-{
-    match call {
-        Call::Enter {
-            store,
-            purpose,
-            role,
-        } => Ok(Some(inventory.enter(*store, *purpose, *role).into())),
-        Call::Step { row, len } => Ok(Some(inventory.step(front(row, *len)).into())),
-        Call::Mark { node, value } => Ok(Some(inventory.mark(*node, *value).into())),
-        Call::Unmark { node, value } => Ok(Some(inventory.unmark(*node, *value).into())),
-        Call::Verify { node, verified } => Ok(Some(inventory.verify(*node, *verified).into())),
-        Call::Draw { from, to, step } => Ok(Some(inventory.draw(*from, *to, *step).into())),
-        Call::Strike { from, to, step } => Ok(Some(inventory.strike(*from, *to, *step).into())),
-        Call::Settle => {
-            inventory.settle();
-            Ok(Some(Answer::Done))
-        }
-        Call::Judge {
-            node,
-            scheme,
-            policy,
-        } => Ok(judge_by(inventory, schemes, policies, *node, *scheme, *policy)),
-        Call::Path { node, value, room } => {
-            let answer = shown(heap, inventory, *node, *value, *room)?;
-            Ok(Some(answer))
+impl<V: Vocabulary> Handed<'_, V> {
+    // A node judged by the scheme and the policy of these numbers, where both were handed over.
+    fn judge_by(
+        &self,
+        inventory: &Inventory,
+        node: usize,
+        scheme: usize,
+        policy: usize,
+    ) -> Option<Answer>
+        ensures { One (view inventory.now) (view inventory.now) (judged_by V.orders self.now.schemes.now self.now.policies.now node scheme policy) result }
+    {
+        let scheme = self.schemes.get(scheme)?;
+        let policy = self.policies.get(policy)?;
+        Some(inventory.judge(node, scheme, policy).into())
+    }
+
+    // One call: a function of its own, so that the loop has one way.
+    fn make(
+        &self,
+        heap: Global,
+        inventory: &mut Inventory,
+        call: &Call,
+    ) -> Result<Option<Answer>, AllocError>
+        ensures one { IfOk result (One (view inventory.old) (view inventory.new) (named V.orders self.now.schemes.now self.now.policies.now call.now)) }
+        ensures failed { OnErr result (view inventory.new ≡ view inventory.old) }
+        ensures lent { SameMemory inventory.old inventory.new }
+    {
+        match call {
+            Call::Enter {
+                store,
+                purpose,
+                role,
+            } => Ok(Some(inventory.enter(*store, *purpose, *role).into())),
+            Call::Step { row, len } => Ok(Some(inventory.step(front(row, *len)).into())),
+            Call::Mark { node, value } => Ok(Some(inventory.mark(*node, *value).into())),
+            Call::Unmark { node, value } => Ok(Some(inventory.unmark(*node, *value).into())),
+            Call::Verify { node, verified } => Ok(Some(inventory.verify(*node, *verified).into())),
+            Call::Draw { from, to, step } => Ok(Some(inventory.draw(*from, *to, *step).into())),
+            Call::Strike { from, to, step } => Ok(Some(inventory.strike(*from, *to, *step).into())),
+            Call::Settle => {
+                inventory.settle();
+                Ok(Some(Answer::Done))
+            }
+            Call::Judge {
+                node,
+                scheme,
+                policy,
+            } => Ok(self.judge_by(inventory, *node, *scheme, *policy)),
+            Call::Path { node, value, room } => {
+                let answer = shown(heap, inventory, *node, *value, *room)?;
+                Ok(Some(answer))
+            }
         }
     }
 }
@@ -100,6 +107,7 @@ fn make<V: Vocabulary>(
 /// names a scheme or a policy that was not handed over, which is no call then.
 ///
 /// Each call is answered as the ledger before it says, so every judgement is right.
+// The memory lent is three parameters and no struct: a clause says what a `&mut` parameter points to, before and after.
 pub fn run<V: Vocabulary>(
     heap: Global,
     sizes: Sizes,
@@ -116,9 +124,10 @@ pub fn run<V: Vocabulary>(
     ensures right { IfOk result (λ v. EveryJudgementRight (fresh sizes (length nodes.old) (length flows.old) (length workspace.old)) (events V.Vocabulary.orders schemes.now policies.now calls.now v.items)) }
 {
     let mut inventory = Inventory::new(sizes, nodes, flows, workspace);
+    let handed = Handed { schemes, policies };
     let mut answers = Vec::new(heap);
     for call in calls {
-        let answer = make(heap, &mut inventory, schemes, policies, call)?;
+        let answer = handed.make(heap, &mut inventory, call)?;
         answers.push(answer)?;
     }
     Ok(answers)

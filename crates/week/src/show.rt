@@ -13,6 +13,10 @@ const NAMES: [&str; 7] = [
     "anything full",
 ];
 
+fn name(value: u8) -> &'static str {
+    NAMES.get(usize::from(value)).unwrap_or(&"nothing")
+}
+
 /// A set of data types, shown by their names.
 #[derive(Clone, Copy)]
 pub struct DataTypes(pub u64);
@@ -27,12 +31,13 @@ impl DataTypes {
 impl fmt::Display for DataTypes {
     fn fmt<W: fmt::Write>(&self, f: &mut fmt::Formatter<W>) -> fmt::Result {
         f.write_str("{")?;
-        let values = (0..64u8).filter(|value| bitset::contains(self.0, *value));
-        for (index, value) in values.enumerate() {
-            if index > 0 {
+        let mut values = bitset::values(self.0);
+        if let Some(first) = values.next() {
+            f.write_str(name(first))?;
+            for value in values {
                 f.write_str(", ")?;
+                f.write_str(name(value))?;
             }
-            f.write_str(NAMES.get(usize::from(value)).unwrap_or(&"nothing"))?;
         }
         f.write_str("}")
     }
