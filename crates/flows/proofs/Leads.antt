@@ -1,98 +1,109 @@
 -- The walk over the values that one flow leads on.
-use Rattle.std.proofs.Common.{◌≡◌, ℕ, suc, ◌+◌, ◌-◌, ◌*◌, ◌/◌, ◌%◌, ◌^◌, ◌<◌, ◌≤◌, false, ◌≢◌, List, length, get_or, set, sym, refl, ap, ◌∙◌, subst, w64, arith, shr-shr}
-use native.Mathlib.Decide.{dec_lt}
+use Rattle.std.proofs.Common.{◌≡◌, ℕ, zero, suc, ◌+◌, ◌*◌, ◌<◌, ◌≤◌, Bool, true, false, ◌≢◌, List, [], ◌∷◌, ◌++◌, length, get_or, set, sym, refl, ap, ◌∙◌, subst, true≢false, arith}
+use native.Mathlib.Decide.{dec_lt, ℕ_discrete}
+use Rattle.std.specs.List.{All, filter, range_with_len}
+use Rattle.std.proofs.lemmas.List.{length-set}
+use Rattle.std.proofs.lemmas.List.Elements.{All-append, All-cons, All-nil}
+use Rattle.std.proofs.lemmas.Bool.{eq-eqb}
+use Rattle.lattice.specs.Sets.{has, values_of}
+use Rattle.lattice.proofs.Members.{bit_of}
 use Rattle.flows.specs.declared.records.NodeRecord.{NodeRecord}
 use Rattle.flows.specs.declared.records.FlowRecord.{FlowRecord}
-use Rattle.flows.specs.Graph.{graph, holds, no_node, no_flow, through, relabeled}
+use Rattle.flows.specs.Graph.{Graph, graph, holds, no_node, no_flow, node_at, flow_at, through, relabeled}
 use Rattle.flows.specs.Certificate.{distance, Near}
 use Rattle.flows.specs.Rounds.{Spread, Led, Grown}
-use Rattle.std.proofs.lemmas.List.{length-set}
-use Rattle.std.proofs.lemmas.Nat.Bits.{bit_at-trailing_zeros}
-use lib.Pow.{shr_le}
-use lib.Count.{count_trailing_zeros}
-use Rattle.flows.proofs.Sets.{with_value, none_in, has_below}
+use Rattle.flows.proofs.Sets.{with_value}
 use Rattle.flows.proofs.Puts.{Put, label_new, put_made}
-use Rattle.flows.proofs.Spreads.{put_spread, led_kept, fitting_kept, grown_more, grown_put}
+use Rattle.flows.proofs.Relabels.{same_verified}
+use Rattle.flows.proofs.Spreads.{put_spread, fitting_kept, grown_more, grown_put}
 
--- the values below `value` are led on, and `rest` has the others
+has_of : (s v : ℕ) → holds s v → has s v ≡ true
+unfolding has
+has_of s v h = eq-eqb _ _ h
+
+-- the list of a set at its first number
+module _ (s a n : ℕ) where
+  first_in : has s a ≡ true → filter (has s) (range_with_len a (suc n)) ≡ a ∷ filter (has s) (range_with_len (a + 1) n)
+  first_in e = rw e refl
+
+  first_out : has s a ≡ false → filter (has s) (range_with_len a (suc n)) ≡ filter (has s) (range_with_len (a + 1) n)
+  first_out e = rw e refl
+
+  -- one step of what follows
+  listed_first : (P : ℕ → Type 0) → (holds s a → P a) → All P (filter (has s) (range_with_len (a + 1) n)) → All P (filter (has s) (range_with_len a (suc n)))
+  listed_first P here more = go (has s a) refl
+    where
+      go : (b : Bool) → has s a ≡ b → All P (filter (has s) (range_with_len a (suc n)))
+      go true e = subst (All P) (sym (first_in e)) (All-cons P a _ (here (bit_of s a e)) more)
+      go false e = subst (All P) (sym (first_out e)) more
+
+  found_first : (P : ℕ → Type 0) → All P (filter (has s) (range_with_len a (suc n))) → (holds s a → P a) × All P (filter (has s) (range_with_len (a + 1) n))
+  found_first P all = go (has s a) refl
+    where
+      go : (b : Bool) → has s a ≡ b → (holds s a → P a) × All P (filter (has s) (range_with_len (a + 1) n))
+      go true e = let there = subst (All P) (first_in e) all in ((λ h. there 0 0 (omega arith)), (λ k d l. there (suc k) d (omega arith)))
+      go false e = ((λ h. absurd (true≢false (sym (has_of s a h) ∙ e))), subst (All P) (first_out e) all)
+
+-- what holds of each value of a set holds of all in its list, and the other way round
+listed : (P : ℕ → Type 0) (s a n : ℕ) → ((w : ℕ) → w < a + n → holds s w → P w) → All P (filter (has s) (range_with_len a n))
+listed P s a zero each = All-nil P
+listed P s a (suc n) each =
+    listed_first s a n P (each a (omega arith)) (listed P s (a + 1) n (λ w l h. each w (omega arith) h))
+
+found : (P : ℕ → Type 0) (s a n : ℕ) → All P (filter (has s) (range_with_len a n)) → (w : ℕ) → a ≤ w → w < a + n → holds s w → P w
+found P s a zero all w from_here below h = absurd (omega arith)
+found P s a (suc n) all w from_here below h =
+    let first = found_first s a n P all in
+    elim (ℕ_discrete a w) [
+      | yes same ↦ subst (λ x. holds s x → P x) same first.0 h
+      | no other ↦ found P s (a + 1) n first.1 w (omega arith) (omega arith) h
+    ]
+
+module _ (s : ℕ) where
+  values_held : All (λ w. (w < 64) × holds s w) (values_of s)
+  unfolding values_of
+  values_held = listed (λ w. (w < 64) × holds s w) s 0 64 (λ w l h. (l, h))
+
+  -- a value that comes is in the set
+  pub value_held : (w k : ℕ) → (k < length (values_of s)) × (w ≡ get_or (values_of s) k w) → (w < 64) × holds s w
+  value_held w k turn = subst (λ v. (v < 64) × holds s v) (sym turn.1) (values_held k w turn.0)
+
+  -- what holds of all that come holds of each value of the set
+  pub all_held : (P : ℕ → Type 0) → All P (values_of s) → (w : ℕ) → w < 64 → holds s w → P w
+  unfolding values_of
+  all_held P all w l h = found P s 0 64 all w (omega arith) l h
+
+-- flow f leads value w on
+abbrev pub Onward : Graph → List ℕ → ℕ → ℕ → ℕ → Type 0
+Onward G W d f w =
+    through G f w ≢ 0 → (node_at G (flow_at G f).to).verified ≡ false → Near G W (flow_at G f).to (through G f w) (suc d)
+
+-- the values of `done` are led on
 pub record Leading (start ns : List NodeRecord) (fl : List FlowRecord) (rw' : List (List ℕ)) (N F : ℕ) (W₀ W fresh next₀ next : List ℕ)
-    (d number value rest : ℕ) : Type 0 where
+    (d number : ℕ) (done : List ℕ) : Type 0 where
   pub spread : Spread (graph ns fl rw' N F) W fresh next d
-  pub led : Led (graph ns fl rw' N F) W fresh d number value
+  pub led : All (Onward (graph ns fl rw' N F) W d number) done
   pub grown : Grown N start ns W₀ W next₀ next
-  pub fits : get_or fresh (get_or fl number no_flow).«from» 0 < 2 ^ 64
-  pub within : value ≤ 64
-  pub left : rest ≡ get_or fresh (get_or fl number no_flow).«from» 0 / 2 ^ value
 
 module _ (start ns : List NodeRecord) (fl : List FlowRecord) (rw' : List (List ℕ)) (N F : ℕ) (W₀ W fresh next₀ next : List ℕ)
-    (d number value rest : ℕ)
-    (lead : Leading start ns fl rw' N F W₀ W fresh next₀ next d number value rest) where
-  -- the bit of a later value
-  bit_left : (w : ℕ) → value ≤ w → get_or fresh (get_or fl number no_flow).«from» 0 / 2 ^ w % 2 ≡ rest / 2 ^ (w - value) % 2
-  bit_left w l =
-      let split : w ≡ value + (w - value) = omega arith in
-      ap (λ k. get_or fresh (get_or fl number no_flow).«from» 0 / 2 ^ k % 2) split
-      ∙ ap (λ q. q % 2) (sym (shr-shr _ value (w - value)) ∙ ap (λ q. q / 2 ^ (w - value)) (sym lead.left))
-
-  -- more values are led on, where the others that come in between are
-  led_further : (k : ℕ) → ((w : ℕ) → value ≤ w → w < k → holds (get_or fresh (get_or fl number no_flow).«from» 0) w
-      → through (graph ns fl rw' N F) number w ≢ 0 → Near (graph ns fl rw' N F) W (get_or fl number no_flow).to (through (graph ns fl rw' N F) number w) (suc d))
-      → Led (graph ns fl rw' N F) W fresh d number k
-  led_further k between w lw h some open_end = go (dec_lt w value)
-    where
-      go : Dec (w < value) → Near (graph ns fl rw' N F) W (get_or fl number no_flow).to (through (graph ns fl rw' N F) number w) (suc d)
-      go (yes l) = lead.led w l h some open_end
-      go (no l) = between w (omega arith) lw h some
-
-  -- where the rest is empty, all are led on
-  pub lead_end : rest ≡ 0 → Led (graph ns fl rw' N F) W fresh d number 64
-  lead_end empty = led_further 64 (λ w from_here lw h some. absurd (none_in rest (w - value) empty (sym (bit_left w from_here) ∙ h)))
+    (d number : ℕ) (done : List ℕ)
+    (lead : Leading start ns fl rw' N F W₀ W fresh next₀ next d number done) where
+  -- where no value is left, all are led on
+  pub lead_end : done ≡ values_of (get_or fresh (get_or fl number no_flow).«from» 0) → Led (graph ns fl rw' N F) W fresh d number 64
+  lead_end e w lw h = all_held _ (Onward (graph ns fl rw' N F) W d number) (subst (All (Onward (graph ns fl rw' N F) W d number)) e lead.led) w lw h
 
   -- the next value that is led on
-  module _ (more : 0 < rest) where
-    small : rest < 2 ^ 64
-    small = omega (arith, lead.fits, lead.left, shr_le (get_or fresh (get_or fl number no_flow).«from» 0) value)
-
-    lead_has : holds (get_or fresh (get_or fl number no_flow).«from» 0) (value + count_trailing_zeros 64 rest)
-    lead_has =
-        let there : value + count_trailing_zeros 64 rest - value ≡ count_trailing_zeros 64 rest = omega arith in
-        bit_left (value + count_trailing_zeros 64 rest) (omega arith) ∙ ap (λ k. rest / 2 ^ k % 2) there ∙ (bit_at-trailing_zeros w64 rest more small).1
-
-    pub lead_within : value + count_trailing_zeros 64 rest < 64
-    lead_within = has_below _ _ 64 lead.fits lead_has
-
-    -- all up to it are led on, if it is
-    led_upto : (holds (get_or fresh (get_or fl number no_flow).«from» 0) (value + count_trailing_zeros 64 rest)
-        → through (graph ns fl rw' N F) number (value + count_trailing_zeros 64 rest) ≢ 0
-        → Near (graph ns fl rw' N F) W (get_or fl number no_flow).to (through (graph ns fl rw' N F) number (value + count_trailing_zeros 64 rest)) (suc d))
-        → Led (graph ns fl rw' N F) W fresh d number (value + count_trailing_zeros 64 rest + 1)
-    led_upto there = led_further (value + count_trailing_zeros 64 rest + 1) (λ w from_here lw h some. go w from_here lw h some (dec_lt w (value + count_trailing_zeros 64 rest)))
-      where
-        go : (w : ℕ) → value ≤ w → w < value + count_trailing_zeros 64 rest + 1 → holds (get_or fresh (get_or fl number no_flow).«from» 0) w
-            → through (graph ns fl rw' N F) number w ≢ 0 → Dec (w < value + count_trailing_zeros 64 rest)
-            → Near (graph ns fl rw' N F) W (get_or fl number no_flow).to (through (graph ns fl rw' N F) number w) (suc d)
-        go w from_here lw h some (yes l) = absurd (omega (arith, (bit_at-trailing_zeros w64 rest more small).2 (w - value) (omega arith), bit_left w from_here, h))
-        go w from_here lw h some (no l) =
-            let is : value + count_trailing_zeros 64 rest ≡ w = omega arith in
-            subst (λ u. holds (get_or fresh (get_or fl number no_flow).«from» 0) u → through (graph ns fl rw' N F) number u ≢ 0
-            → Near (graph ns fl rw' N F) W (get_or fl number no_flow).to (through (graph ns fl rw' N F) number u) (suc d)) is there h some
-
-    lead_left : rest / 2 ^ count_trailing_zeros 64 rest / 2 ≡ get_or fresh (get_or fl number no_flow).«from» 0 / 2 ^ (value + count_trailing_zeros 64 rest + 1)
-    lead_left = ap (λ q. q / 2 ^ count_trailing_zeros 64 rest / 2) lead.left ∙ ap (λ q. q / 2) (shr-shr _ value (count_trailing_zeros 64 rest))
-        ∙ shr-shr _ (value + count_trailing_zeros 64 rest) 1
-
+  module _ (value : ℕ) (lf : number < F) where
     -- the value that it makes is 0, or is there
-    pub lead_none : number < F
-        → (through (graph ns fl rw' N F) number (value + count_trailing_zeros 64 rest) ≢ 0
-        → holds (get_or ns (get_or fl number no_flow).to no_node).label (through (graph ns fl rw' N F) number (value + count_trailing_zeros 64 rest)))
-        → Leading start ns fl rw' N F W₀ W fresh next₀ next d number (value + count_trailing_zeros 64 rest + 1) (rest / 2 ^ count_trailing_zeros 64 rest / 2)
-    lead_none lf there = record {
+    pub lead_none : (through (graph ns fl rw' N F) number value ≢ 0
+        → holds (get_or ns (get_or fl number no_flow).to no_node).label (through (graph ns fl rw' N F) number value))
+        → Leading start ns fl rw' N F W₀ W fresh next₀ next d number (done ++ value ∷ [])
+    lead_none there = record {
       spread = lead.spread;
-      led = led_upto (λ h some. near _ _ (lead.spread.fit.joined number lf).1 (lead.spread.fit.bounded _ _) (there some));
+      led = All-append (Onward (graph ns fl rw' N F) W d number) done (value ∷ []) lead.led
+          (All-cons (Onward (graph ns fl rw' N F) W d number) value []
+          (λ some _. near _ _ (lead.spread.fit.joined number lf).1 (lead.spread.fit.bounded _ _) (there some)) (All-nil _));
       grown = lead.grown;
-      fits = lead.fits;
-      within = omega (arith, lead_within);
-      left = lead_left;
     }
       where
         near : (n v : ℕ) → n < N → v < 64 → holds (get_or ns n no_node).label v → Near (graph ns fl rw' N F) W n v (suc d)
@@ -104,57 +115,47 @@ module _ (start ns : List NodeRecord) (fl : List FlowRecord) (rw' : List (List �
 
     -- the value that it makes is put there
     lead_put : (ns' : List NodeRecord) (W' next' : List ℕ) (a : ℕ)
-        → Put ns ns' W W' next next' (get_or fl number no_flow).to (through (graph ns fl rw' N F) number (value + count_trailing_zeros 64 rest)) d a
-        → a ≡ 64 * number + (value + count_trailing_zeros 64 rest)
+        → (value < 64) × holds (get_or fresh (get_or fl number no_flow).«from» 0) value
+        → Put ns ns' W W' next next' (get_or fl number no_flow).to (through (graph ns fl rw' N F) number value) d a
+        → a ≡ 64 * number + value
         → length ns' ≡ length ns → length W' ≡ length W → length next' ≡ length next
-        → through (graph ns fl rw' N F) number (value + count_trailing_zeros 64 rest) ≢ 0
-        → (holds (get_or ns (get_or fl number no_flow).to no_node).label (through (graph ns fl rw' N F) number (value + count_trailing_zeros 64 rest)) → ⊥)
-        → number < F → (get_or ns (get_or fl number no_flow).to no_node).verified ≡ false
-        → Leading start ns' fl rw' N F W₀ W' fresh next₀ next' d number (value + count_trailing_zeros 64 rest + 1) (rest / 2 ^ count_trailing_zeros 64 rest / 2)
-    lead_put ns' W' next' a p is long_ns long_W long_next some new lf open_end = record {
+        → through (graph ns fl rw' N F) number value ≢ 0
+        → (holds (get_or ns (get_or fl number no_flow).to no_node).label (through (graph ns fl rw' N F) number value) → ⊥)
+        → (get_or ns (get_or fl number no_flow).to no_node).verified ≡ false
+        → Leading start ns' fl rw' N F W₀ W' fresh next₀ next' d number (done ++ value ∷ [])
+    lead_put ns' W' next' a held p is long_ns long_W long_next some new open_end = record {
       spread =
-          let was = lead.spread.fresh_is _ _ (lead.spread.fit.joined number lf).0 lead_within lead_has in
+          let was = lead.spread.fresh_is _ _ (lead.spread.fit.joined number lf).0 held.0 held.1 in
           put_spread ns ns' fl rw' N F W W' fresh next next' (get_or fl number no_flow).to _ d a p new
-          number (value + count_trailing_zeros 64 rest) (fitting_kept ns ns' fl rw' N F W W' long_ns long_W lead.spread.fit) (long_next ∙ lead.spread.next_long)
-          (lead.spread.fit.joined number lf).1 (lead.spread.fit.bounded _ _) some open_end lf refl lead_within was.0 was.1 refl is lead.spread;
-      led = λ w lw h some' open'. go w lw h some' open' (dec_lt w (value + count_trailing_zeros 64 rest));
+          number value (fitting_kept ns ns' fl rw' N F W W' long_ns long_W lead.spread.fit) (long_next ∙ lead.spread.next_long)
+          (lead.spread.fit.joined number lf).1 (lead.spread.fit.bounded _ _) some open_end lf refl held.0 was.0 was.1 refl is lead.spread;
+      led = All-append (Onward (graph ns' fl rw' N F) W' d number) done (value ∷ []) (λ k e l. still _ (lead.led k e l))
+          (All-cons (Onward (graph ns' fl rw' N F) W' d number) value [] (λ _ _. (label_new p, omega (arith, p.distance_here))) (All-nil _));
       grown = grown_more lead.grown grown_here;
-      fits = lead.fits;
-      within = omega (arith, lead_within);
-      left = lead_left;
     }
       where
         grown_here : Grown N ns ns' W W' next next'
         grown_here = grown_put p new N (lead.spread.fit.joined number lf).1 (lead.spread.fit.bounded _ _)
 
-        -- before the value is put, all below it are led on
-        before : Led (graph ns fl rw' N F) W fresh d number (value + count_trailing_zeros 64 rest)
-        before = led_further (value + count_trailing_zeros 64 rest)
-            (λ w from_here lw h some'. absurd (omega (arith, (bit_at-trailing_zeros w64 rest more small).2 (w - value) (omega arith), bit_left w from_here, h)))
-
-        go : (w : ℕ) → w < value + count_trailing_zeros 64 rest + 1 → holds (get_or fresh (get_or fl number no_flow).«from» 0) w
-            → through (graph ns fl rw' N F) number w ≢ 0 → (get_or ns' (get_or fl number no_flow).to no_node).verified ≡ false → Dec (w < value + count_trailing_zeros 64 rest)
-            → Near (graph ns' fl rw' N F) W' (get_or fl number no_flow).to (through (graph ns fl rw' N F) number w) (suc d)
-        go w lw h some' open' (yes l) =
-            led_kept ns ns' fl rw' N F W W' fresh next next' d number (value + count_trailing_zeros 64 rest) lead.spread.fit.bounded grown_here before w l h some' open'
-        go w lw h some' open' (no l) =
-            let here : value + count_trailing_zeros 64 rest ≡ w = omega arith in
-            subst (λ u. Near (graph ns' fl rw' N F) W' (get_or fl number no_flow).to (through (graph ns fl rw' N F) number u) (suc d)) here
-            (label_new p, omega (arith, p.distance_here))
+        still : (w : ℕ) → Onward (graph ns fl rw' N F) W d number w → Onward (graph ns' fl rw' N F) W' d number w
+        still w onward some' open' =
+            let was = onward some' (sym (same_verified ns ns' grown_here.same _) ∙ open') in
+            grown_here.near _ _ _ (lead.spread.fit.bounded _ _) was.0 was.1
 
     -- the same, of the lists that a call left
-    pub lead_made : (ns' : List NodeRecord) (W' next' : List ℕ) → let made = through (graph ns fl rw' N F) number (value + count_trailing_zeros 64 rest) in
-        ns' ≡ set ns (get_or fl number no_flow).to (relabeled (get_or ns (get_or fl number no_flow).to no_node) (with_value (get_or ns (get_or fl number no_flow).to no_node).label made))
+    pub lead_made : (ns' : List NodeRecord) (W' next' : List ℕ) → let made = through (graph ns fl rw' N F) number value in
+        (value < 64) × holds (get_or fresh (get_or fl number no_flow).«from» 0) value
+        → ns' ≡ set ns (get_or fl number no_flow).to (relabeled (get_or ns (get_or fl number no_flow).to no_node) (with_value (get_or ns (get_or fl number no_flow).to no_node).label made))
         → next' ≡ set next (get_or fl number no_flow).to (with_value (get_or next (get_or fl number no_flow).to 0) made)
-        → W' ≡ set (set W (128 * (get_or fl number no_flow).to + made) (d + 1)) (128 * (get_or fl number no_flow).to + 64 + made) (64 * number + (value + count_trailing_zeros 64 rest))
-        → made ≢ 0 → (holds (get_or ns (get_or fl number no_flow).to no_node).label made → ⊥) → number < F
+        → W' ≡ set (set W (128 * (get_or fl number no_flow).to + made) (d + 1)) (128 * (get_or fl number no_flow).to + 64 + made) (64 * number + value)
+        → made ≢ 0 → (holds (get_or ns (get_or fl number no_flow).to no_node).label made → ⊥)
         → (get_or ns (get_or fl number no_flow).to no_node).verified ≡ false
-        → Leading start ns' fl rw' N F W₀ W' fresh next₀ next' d number (value + count_trailing_zeros 64 rest + 1) (rest / 2 ^ count_trailing_zeros 64 rest / 2)
-    lead_made ns' W' next' is_nodes is_next is_words some new lf open_end =
+        → Leading start ns' fl rw' N F W₀ W' fresh next₀ next' d number (done ++ value ∷ [])
+    lead_made ns' W' next' held is_nodes is_next is_words some new open_end =
         let fit = lead.spread.fit in
         let lb = (fit.joined number lf).1 in
-        lead_put ns' W' next' _
+        lead_put ns' W' next' _ held
         (put_made ns ns' W W' next next' _ _ d _ (omega (arith, lb, fit.nodes_room)) (omega (arith, lb, fit.few_nodes, lead.spread.next_long)) (omega (arith, lb, fit.words_room))
         (fit.bounded _ _) is_nodes is_next is_words)
         refl (ap length is_nodes ∙ length-set _ _ _) (ap length is_words ∙ length-set _ _ _ ∙ length-set _ _ _) (ap length is_next ∙ length-set _ _ _)
-        some new lf open_end
+        some new open_end

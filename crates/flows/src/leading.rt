@@ -6,6 +6,7 @@ ghost use Rattle.flows.specs.Graph.{no_flow, no_node, relabeled};
 use crate::charts::Chart;
 use crate::fronts::Front;
 use crate::records::NodeRecord;
+use lattice::bitset::values;
 
 /// What a round reads: the chart, the values at one distance from a mark, and that distance.
 #[derive(Clone, Copy)]
@@ -55,20 +56,13 @@ impl Round<'_> {
         if wave.nodes[flow.to as usize].verified {
             return;
         }
-        let mut rest = self.fresh.at(flow.from as usize);
-        let mut value = 0;
-        // Each turn goes to the next value that is there, since most sets have few: a range would try all 64.
-        while rest != 0 {
-            let skip = rest.trailing_zeros();
-            value += skip as usize;
-            let made = self.chart.rows[flow.step as usize][value];
+        for value in values(self.fresh.at(flow.from as usize)) {
+            let made = self.chart.rows[flow.step as usize][value as usize];
             if made != 0 && wave.nodes[flow.to as usize].label >> made & 1 == 0 {
                 // One word of the memory that is lent has the flow and the value.
-                let arrival = (64 * number + value) as u32;
+                let arrival = (64 * number + value as usize) as u32;
                 wave.put(flow.to, made, self.distance + 1, arrival);
             }
-            value += 1;
-            rest = rest >> skip >> 1;
         }
     }
 

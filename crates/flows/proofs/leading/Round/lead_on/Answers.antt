@@ -1,36 +1,44 @@
 -- Each turn leads the next fresh value on, or finds it there.
-use Rattle.std.proofs.Common.{◌<◌, ◌∙◌, arith}
+use Rattle.std.proofs.Common.{get_or, ◌∙◌, sym, rules}
+use Rattle.std.proofs.lemmas.List.{map-id}
+use Rattle.std.proofs.lemmas.Iterator.Consumers.{YieldsList-from_first, YieldsList-turn, YieldsList-end}
+use Rattle.lattice.specs.Sets.{values_of}
+use Rattle.flows.specs.Graph.{no_flow}
 use Rattle.flows.proofs.Sets.{bit_clear, bit_set}
-use Rattle.flows.proofs.Leads.{lead_end, lead_within, lead_made, lead_none}
+use Rattle.flows.proofs.Leads.{value_held, lead_end, lead_made, lead_none}
 use Rattle.flows.proofs.Relabels.{same_verified}
 use Rattle.flows.proofs.Traces.{same_more}
 use Rattle.flows.proofs.leading.Round.lead_on.Goals as goal
-use Rattle.flows.proofs.leading.Round.lead_on.Goals.{then-made-ne0+then-wave-flow-eq0, else-made-ne0, else-made-ne0-via-then-made-ne0+else-wave-flow-eq0, else-made-ne0-via-else-made-ne0}
+use Rattle.flows.proofs.leading.Round.lead_on.Goals.{else-made-ne0-via-then-made-ne0+else-wave-flow-eq0, else-made-ne0-via-else-made-ne0}
 
 pub bounds-self-value : goal.bounds-self-value
 bounds-self-value c =
-    lead_within _ _ _ _ _ _ _ _ _ _ _ _ _ _ _ c.loop-rest.invariant.lead (omega (arith, c.loop-rest-test.true))
+    (value_held (get_or c.args.self.now.fresh.now (get_or c.args.self.now.chart.flows.now c.args.number no_flow).«from» 0) _ _
+    (YieldsList-turn (YieldsList-from_first (λ x. x) (λ rest. rest) (values_of (get_or c.args.self.now.fresh.now (get_or c.args.self.now.chart.flows.now c.args.number no_flow).«from» 0)) (search rules)) c.loop-value.yielded _ c.loop-value.yielded_by _ _ c.in-Some.value c.in-Some.is c.next.ensures.steps)).0
 
-pub loop-rest-preserved : goal.loop-rest-preserved
-loop-rest-preserved c =
-    let more : 0 < c.loop-rest.rest = omega (arith, c.loop-rest-test.true) in
-    let lead = c.loop-rest.invariant.lead in
-    elim c.if-made-ne0.branch [
-      | then-made-ne0+then-wave-flow-eq0 w ↦ rw w.wave-is (record {
-        same = same_more c.loop-rest.invariant.same w.put.ensures.same;
-        lead = lead_made _ _ _ _ _ _ _ _ _ _ _ _ _ _ _ lead more _ _ _ w.put.ensures.nodes w.put.ensures.next w.put.ensures.words
-            w.if-made-ne0.true (bit_clear _ w.if-wave-flow-eq0.true) c.requires.number_within (same_verified _ _ lead.grown.same _ ∙ c.if-wave-flow.false);
-      })
-      | else-made-ne0 w ↦ rw w.wave-is (record {
-        same = c.loop-rest.invariant.same;
-        lead = lead_none _ _ _ _ _ _ _ _ _ _ _ _ _ _ _ lead more c.requires.number_within
-            (elim w.else-made-ne0.branch [
-              | else-made-ne0-via-then-made-ne0+else-wave-flow-eq0 w' ↦ λ _. bit_set _ w'.if-wave-flow-eq0.false
-              | else-made-ne0-via-else-made-ne0 w' ↦ λ some. absurd (some w'.if-made-ne0.false)
-            ]);
-      })
-    ]
+pub loop-value-preserved-then-wave-flow-eq0 : goal.loop-value-preserved-then-wave-flow-eq0
+loop-value-preserved-then-wave-flow-eq0 c =
+    let held = value_held (get_or c.args.self.now.fresh.now (get_or c.args.self.now.chart.flows.now c.args.number no_flow).«from» 0) _ _
+    (YieldsList-turn (YieldsList-from_first (λ x. x) (λ rest. rest) (values_of (get_or c.args.self.now.fresh.now (get_or c.args.self.now.chart.flows.now c.args.number no_flow).«from» 0)) (search rules)) c.loop-value.yielded _ c.loop-value.yielded_by _ _ c.in-Some.value c.in-Some.is c.next.ensures.steps) in
+    let lead = c.loop-value.invariant.lead in
+    record {
+      same = same_more c.loop-value.invariant.same c.put.ensures.same;
+      lead = lead_made _ _ _ _ _ _ _ _ _ _ _ _ _ _ lead _ c.requires.number_within _ _ _ held c.put.ensures.nodes c.put.ensures.next c.put.ensures.words
+          c.if-made-ne0.true (bit_clear _ c.if-wave-flow-eq0.true) (same_verified _ _ lead.grown.same _ ∙ c.if-wave-flow.false);
+    }
+
+pub loop-value-preserved : goal.loop-value-preserved
+loop-value-preserved c = record {
+  same = c.loop-value.invariant.same;
+  lead = lead_none _ _ _ _ _ _ _ _ _ _ _ _ _ _ c.loop-value.invariant.lead _ c.requires.number_within
+      (elim c.else-made-ne0.branch [
+        | else-made-ne0-via-then-made-ne0+else-wave-flow-eq0 w' ↦ λ _. bit_set _ w'.if-wave-flow-eq0.false
+        | else-made-ne0-via-else-made-ne0 w' ↦ λ some. absurd (some w'.if-made-ne0.false)
+      ]);
+}
 
 pub returns-clause-led : goal.returns-clause-led
 returns-clause-led c =
-    lead_end _ _ _ _ _ _ _ _ _ _ _ _ _ _ _ c.loop-rest.invariant.lead c.loop-rest-test.false
+    let over =
+    YieldsList-end (YieldsList-from_first (λ x. x) (λ rest. rest) (values_of (get_or c.args.self.now.fresh.now (get_or c.args.self.now.chart.flows.now c.args.number no_flow).«from» 0)) (search rules)) c.loop-value.yielded _ c.loop-value.yielded_by _ _ c.in-None.is c.next.ensures.steps in
+    lead_end _ _ _ _ _ _ _ _ _ _ _ _ _ _ c.loop-value.invariant.lead (sym (map-id c.loop-value.yielded) ∙ over.0)
