@@ -1,6 +1,5 @@
 -- The first clause of a policy's words, and what comes after it.
-use Rattle.std.proofs.Common.{◌≡◌, ℕ, ◌+◌, ◌-◌, ◌<◌, ◌≤◌, cond, List, [], ◌∷◌, length, get_or, drop, Some, None, Option, Ok, Err, Result, sym, refl, ap, ◌∙◌, subst, arith, length-drop, length-append, length-set}
-use Rattle.std.proofs.lemmas.List.{drop-drop, drop_all, drop_more}
+use Rattle.std.proofs.Common.{MatchResult, ◌≡◌, ℕ, ◌+◌, ◌-◌, ◌<◌, ◌≤◌, cond, List, [], ◌∷◌, length, get_or, drop, Some, None, Option, Ok, Err, Result, sym, refl, ap, ◌∙◌, subst, arith, length-drop, length-append, length-set}
 use Rattle.std.proofs.lemmas.Bool.{eq-eqb, ne_eqb}
 use Rattle.arrayvec.specs.ArrayVec.{ArrayVec}
 use Rattle.lattice.specs.declared.sizes.Sizes.{Sizes}
@@ -61,19 +60,15 @@ module _ (d : Draft) (ws : List ℕ) (some : 1 ≤ length ws) (count : d.clauses
       by None n e = ap Err (sym e)
 
   module _ (k : Kind) (is : w ≡ Some (Head k)) where
-    begun_on : (left : ℕ) (e : Draft) (y : ClauseRecord) → Closes (just_open k 0) (numbered k d) (fresh k) (tail ws) left e y → Begins d ws left (stored e (length d.clauses.items) y)
-    begun_on left e y h =
-        let c : Closes (just_open k 0) (numbered k d) (fresh k) (drop 1 ws) left e y = subst (λ q. Closes (just_open k 0) (numbered k d) (fresh k) q left e y) (tail_is ws) h in
-        let step = outside_head d ws some (omega arith) count k (sym ew ∙ is) in
-        let n : length (drop 1 ws) ≡ length ws - 1 = length-drop 1 ws in
-        let low : left < length (drop 1 ws) = c.shorter in
-        let m : 1 + (length (drop 1 ws) - left) ≡ length ws - left = omega arith in
+    begun_on : (rest : List ℕ) (e : Draft) (y : ClauseRecord) → Closes (just_open k 0) (numbered k d) (fresh k) (tail ws) rest e y → Begins d ws rest (stored e (length d.clauses.items) y)
+    begun_on rest e y h =
+        let c : Closes (just_open k 0) (numbered k d) (fresh k) (drop 1 ws) rest e y = subst (λ q. Closes (just_open k 0) (numbered k d) (fresh k) q rest e y) (tail_is ws) h in
         record {
-          shorter = omega arith;
+          shorter = omega (arith, c.shorter, length-drop 1 ws);
           some = omega (arith, c.grows, length-append d.clauses.items (fresh k ∷ []), length-set e.clauses.items (length d.clauses.items) y);
           sizes = c.sizes;
           total = c.total;
-          on = step ∙ c.on [] [] (length d.clauses.items) refl ∙ ap (λ u. goes (stored e (length d.clauses.items) y) [] [] u) (drop-drop (length (drop 1 ws) - left) 1 ws ∙ ap (λ j. drop j ws) m);
+          on = outside_head d ws some (omega arith) count k (sym ew ∙ is) ∙ c.on [] [] (length d.clauses.items) refl;
         }
 
     begun_stops : (r : Refusal) → Stops (just_open k 0) (numbered k d) (fresh k) (tail ws) r → goes d [] [] ws ≡ Err r
@@ -81,9 +76,15 @@ module _ (d : Draft) (ws : List ℕ) (some : 1 ≤ length ws) (count : d.clauses
         let c : Stops (just_open k 0) (numbered k d) (fresh k) (drop 1 ws) r = subst (λ q. Stops (just_open k 0) (numbered k d) (fresh k) q r) (tail_is ws) h in
         outside_head d ws some (omega arith) count k (sym ew ∙ is) ∙ c [] [] (length d.clauses.items) refl
 
-    pub begun_behind : (r : Result ℕ Refusal) (e : Draft) → Behind k 0 d (tail ws) r e → Begun d ws r e
-    begun_behind (Ok left) e (g, (y, (c, q))) = subst (λ f. Begins d ws left f) (sym q) (begun_on left g y c)
+    begun_behind : (r : Result (List ℕ) Refusal) (e : Draft) → Behind k 0 d (tail ws) r e → Begun d ws r e
+    begun_behind (Ok rest) e (g, (y, (c, q))) = subst (λ f. Begins d ws rest f) (sym q) (begun_on rest g y c)
     begun_behind (Err r) e h = begun_stops r h
+
+    -- the same, where what is left is lent
+    pub begun_lent : {R : Type 0} (r : Result R Refusal) (words_of : R → List ℕ) (e : Draft) → MatchResult r (λ x. Behind k 0 d (tail ws) (Ok (words_of x)) e) (λ x. Behind k 0 d (tail ws) (Err x) e)
+        → MatchResult r (λ x. Begun d ws (Ok (words_of x)) e) (λ x. Begun d ws (Err x) e)
+    begun_lent (Ok x) words_of e h = begun_behind (Ok (words_of x)) e h
+    begun_lent (Err x) words_of e h = begun_behind (Err x) e h
 
 pub begun_none : (d : Draft) (ws : List ℕ) → length ws < 1 → d.clauses.items ≡ [] → d.total ≡ length ws → goes d [] [] ws ≡ Err (record { reason = MisplacedWord; place = 0 })
 unfolding walk
@@ -97,10 +98,9 @@ goes_end : (e : Draft) → 1 ≤ (length e.clauses.items) → goes e [] [] [] �
 unfolding walk
 goes_end e h = ap (λ b. cond b (Err (record { reason = MisplacedWord; place = e.total - 0 })) (Ok (record { opens = []; clauses = e.clauses.items }))) (ne_eqb (length e.clauses.items) 0 (λ q. omega arith))
 
-pub first_whole : (d e : Draft) (ws : List ℕ) (left : ℕ) → Begins d ws left e → left ≡ 0 → Firsts d ws (Ok tt) e
-first_whole d e ws left b z =
-    let n : drop (length ws - left) ws ≡ [] = drop_all (length ws - left) ws (omega arith) in
-    (b.on ∙ ap (λ u. goes e [] [] u) n ∙ goes_end e b.some, b.sizes)
+pub first_whole : (d e : Draft) (ws rest : List ℕ) → Begins d ws rest e → length rest < 1 → Firsts d ws (Ok tt) e
+first_whole d e ws [] b z = (b.on ∙ goes_end e b.some, b.sizes)
+first_whole d e ws (w ∷ rest) b z = absurd (omega arith)
 
 stray_fault : (n : ℕ) → 1 ≤ n → (w : Option Word) → checked w (fault_outside n) ≡ Err (stray_reason w)
 stray_fault n h (Some (Head k)) = ap (λ b. elim (cond b None (Some MisplacedWord)) [ Some y ↦ Err y | None ↦ Ok (Head k) ]) (ne_eqb n 0 (λ e. omega arith))
@@ -109,20 +109,14 @@ stray_fault n h (Some Except) = refl
 stray_fault n h (Some End) = refl
 stray_fault n h None = refl
 
-pub first_stray : (d e : Draft) (ws : List ℕ) (left : ℕ) → d.total ≡ length ws → Begins d ws left e → (left ≡ 0 → ⊥) → (w : Option Word) → w ≡ word_of (get_or ws (length ws - left) 0) → (x : Reason) → x ≡ stray_reason w
-    → goes d [] [] ws ≡ Err (record { reason = x; place = length ws - left })
-first_stray d e ws left t b nz w ew x ex =
-    let low : left < length ws = b.shorter in
-    let i = length ws - left in
-    let lt : i < length ws = omega arith in
-    let more_words : drop i ws ≡ get_or ws i 0 ∷ drop (i + 1) ws = drop_more ws i 0 lt in
-    let n : length (drop i ws) ≡ left = length-drop i ws ∙ omega arith in
-    let head_is : get_or (drop i ws) 0 0 ≡ get_or ws i 0 = ap (λ u. get_or u 0 0) more_words in
-    let f : checked (word_of (get_or (drop i ws) 0 0)) (fault_outside (length e.clauses.items)) ≡ Err x =
-    ap (λ v. checked (word_of v) (fault_outside (length e.clauses.items))) head_is ∙ ap (λ o. checked o (fault_outside (length e.clauses.items))) (sym ew) ∙ stray_fault (length e.clauses.items) b.some w ∙ ap Err (sym ex) in
+pub first_stray : (d e : Draft) (ws rest : List ℕ) → d.total ≡ length ws → Begins d ws rest e → 1 ≤ length rest → (w : Option Word) → w ≡ word_of (get_or rest 0 0) → (x : Reason) → x ≡ stray_reason w
+    → goes d [] [] ws ≡ Err (record { reason = x; place = length ws - length rest })
+first_stray d e ws rest t b some w ew x ex =
+    let f : checked (word_of (get_or rest 0 0)) (fault_outside (length e.clauses.items)) ≡ Err x =
+    ap (λ o. checked o (fault_outside (length e.clauses.items))) (sym ew) ∙ stray_fault (length e.clauses.items) b.some w ∙ ap Err (sym ex) in
     let et = b.total in
-    let p : e.total - length (drop i ws) ≡ i = omega arith in
-    b.on ∙ outside_stop e (drop i ws) (omega arith) x f ∙ ap (λ j. Err (record { reason = x; place = j })) p
+    let p : e.total - length rest ≡ length ws - length rest = omega arith in
+    b.on ∙ outside_stop e rest some x f ∙ ap (λ j. Err (record { reason = x; place = j })) p
 
 -- the whole draft
 pub sized_small : (z : Sizes) → Sized z → Small z

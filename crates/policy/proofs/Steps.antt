@@ -1,6 +1,6 @@
 -- One word of a reader, as one step of the walk.
 use Rattle.std.proofs.Common.{◌≡◌, ℕ, suc, ◌+◌, ◌-◌, ◌<◌, ◌≤◌, List, [], ◌∷◌, ◌++◌, length, slice_set, get_or, take, drop, Ok, Err, Result, sym, refl, ap, ◌∙◌, subst, arith, length-drop, length-append, length-set}
-use Rattle.std.proofs.lemmas.List.{drop-drop, take_rest, take-append-le}
+use Rattle.std.proofs.lemmas.List.{take_rest, take-append-le}
 use Rattle.std.proofs.Math.Seq.{take-length}
 use Rattle.std.specs.List.{refill}
 use Rattle.arrayvec.specs.ArrayVec.{ArrayVec}
@@ -26,7 +26,7 @@ pub record Along (k : Kind) (depth : ℕ) (start : Draft) (all : List ℕ) (numb
   pub ready : Ready o d ws
   pub given : number ≡ length start.clauses.items
   pub inside : number < length d.clauses.items
-  pub on : (r : Result ℕ Refusal) (e : Draft) (y : ClauseRecord) → Reads o d x ws r e y → Reads (just_open k depth) (numbered k start) (fresh k) all r e y
+  pub on : (r : Result (List ℕ) Refusal) (e : Draft) (y : ClauseRecord) → Reads o d x ws r e y → Reads (just_open k depth) (numbered k start) (fresh k) all r e y
 
 -- `rest` of the pattern `[first, rest @ ..]`
 abbrev pub tail : List ℕ → List ℕ
@@ -74,25 +74,17 @@ goes_on o d (w ∷ ws) h hi v e fs ss el =
     ∙ ap (λ i. walk (recorded d.sizes) d.sizes (advanced (reading o d fs) v) (recorded d.sizes (reading o d fs) v (records d ss)) i ws) p
 
 -- the same clause is read on from a later place
-module _ (o o' : Open) (d d' : Draft) (x x' : ClauseRecord) (ws : List ℕ) (m : ℕ) (low : 1 ≤ m) (high : m ≤ length ws) (grows : (length d.clauses.items) ≤ (length d'.clauses.items)) (sizes : d'.sizes ≡ d.sizes) (total : d'.total ≡ d.total) (deep : o'.depth ≡ o.depth)
-    (step : (fs : List Frame) (ss : List Slot) (n : ℕ) → length fs + 1 ≡ o.depth → goes d (frame_of o ∷ fs) (slot n x ∷ ss) ws ≡ goes d' (frame_of o' ∷ fs) (slot n x' ∷ ss) (drop m ws)) where
-  rest_of_rest : (left : ℕ) → left < length (drop m ws) → drop (length (drop m ws) - left) (drop m ws) ≡ drop (length ws - left) ws
-  rest_of_rest left h =
-      let n : length (drop m ws) ≡ length ws - m = length-drop m ws in
-      let p : m + (length (drop m ws) - left) ≡ length ws - left = omega arith in
-      drop-drop (length (drop m ws) - left) m ws ∙ ap (λ i. drop i ws) p
-
-  pub later : (r : Result ℕ Refusal) (e : Draft) (y : ClauseRecord) → Reads o' d' x' (drop m ws) r e y → Reads o d x ws r e y
-  later (Ok left) e y h =
-      let n : length (drop m ws) ≡ length ws - m = length-drop m ws in
-      record {
-        shorter = omega (arith, h.shorter);
-        grows = omega (arith, h.grows);
-        room = h.room;
-        sizes = h.sizes ∙ sizes;
-        total = h.total ∙ total;
-        on = λ fs ss n el. step fs ss n el ∙ (h.on fs ss n (el ∙ sym deep) ∙ ap (λ u. goes (stored e n y) (ended fs) ss u) (rest_of_rest left h.shorter));
-      }
+module _ (o o' : Open) (d d' : Draft) (x x' : ClauseRecord) (ws vs : List ℕ) (fewer : length vs ≤ length ws) (grows : length d.clauses.items ≤ length d'.clauses.items) (sizes : d'.sizes ≡ d.sizes) (total : d'.total ≡ d.total) (deep : o'.depth ≡ o.depth)
+    (step : (fs : List Frame) (ss : List Slot) (n : ℕ) → length fs + 1 ≡ o.depth → goes d (frame_of o ∷ fs) (slot n x ∷ ss) ws ≡ goes d' (frame_of o' ∷ fs) (slot n x' ∷ ss) vs) where
+  pub later : (r : Result (List ℕ) Refusal) (e : Draft) (y : ClauseRecord) → Reads o' d' x' vs r e y → Reads o d x ws r e y
+  later (Ok rest) e y h = record {
+    shorter = omega (arith, h.shorter);
+    grows = omega (arith, h.grows);
+    room = h.room;
+    sizes = h.sizes ∙ sizes;
+    total = h.total ∙ total;
+    on = λ fs ss n el. step fs ss n el ∙ h.on fs ss n (el ∙ sym deep);
+  }
   later (Err r) e y h = λ fs ss n el. step fs ss n el ∙ h fs ss n (el ∙ sym deep)
 
 module _ (o : Open) (d : Draft) (x : ClauseRecord) (ws : List ℕ) (some : 1 ≤ length ws) (ready : Ready o d ws) (w : Word) (ew : seen o d ws ≡ Ok w) where
@@ -103,13 +95,13 @@ module _ (o : Open) (d : Draft) (x : ClauseRecord) (ws : List ℕ) (some : 1 ≤
       goes_on o d ws some ready.within w ew fs ss el
       ∙ ap (λ y. walk (recorded d.sizes) d.sizes (advanced (reading o d fs) y) (recorded d.sizes (reading o d fs) y (records d ss)) (d.total - length (drop 1 ws)) (drop 1 ws)) is
 
-  at_except : w ≡ Except → (r : Result ℕ Refusal) (e : Draft) (y : ClauseRecord)
+  at_except : w ≡ Except → (r : Result (List ℕ) Refusal) (e : Draft) (y : ClauseRecord)
       → Reads (record { kind = o.kind; phase = Excepting; last = o.last; depth = o.depth }) d x (tail ws) r e y → Reads o d x ws r e y
   at_except is r e y h =
-      later o (record { kind = o.kind; phase = Excepting; last = o.last; depth = o.depth }) d d x x ws 1 (omega arith) some (omega arith) refl refl refl (λ fs ss n el. on_by Except is fs (slot n x ∷ ss) el) r e y
+      later o (record { kind = o.kind; phase = Excepting; last = o.last; depth = o.depth }) d d x x ws (drop 1 ws) (omega (arith, length-drop 1 ws)) (omega arith) refl refl refl (λ fs ss n el. on_by Except is fs (slot n x ∷ ss) el) r e y
       (subst (λ u. Reads (record { kind = o.kind; phase = Excepting; last = o.last; depth = o.depth }) d x u r e y) (tail_is ws) h)
 
-  at_value : (a v : ℕ) → w ≡ value a v → (x' : ClauseRecord) → x' ≡ with_value a v x → (r : Result ℕ Refusal) (e : Draft) (y : ClauseRecord)
+  at_value : (a v : ℕ) → w ≡ value a v → (x' : ClauseRecord) → x' ≡ with_value a v x → (r : Result (List ℕ) Refusal) (e : Draft) (y : ClauseRecord)
       → Reads (record { kind = o.kind; phase = o.phase; last = record { attribute = a; code = v }; depth = o.depth }) d x' (tail ws) r e y
       → Reads o d x ws r e y
   at_value a v is x' ex r e y h =
@@ -117,23 +109,20 @@ module _ (o : Open) (d : Draft) (x : ClauseRecord) (ws : List ℕ) (some : 1 ≤
       let h₁ : P (with_value a v x) (tail ws) = subst (λ q. P q (tail ws)) ex h in
       let h₂ : P (with_value a v x) (drop 1 ws) = subst (λ q. P (with_value a v x) q) (tail_is ws) h₁ in
       later o (record { kind = o.kind; phase = o.phase; last = record { attribute = a; code = v }; depth = o.depth }) d d x (with_value a v x)
-      ws 1 (omega arith) some (omega arith) refl refl refl (λ fs ss n el. on_by (value a v) is fs (slot n x ∷ ss) el) r e y h₂
+      ws (drop 1 ws) (omega (arith, length-drop 1 ws)) (omega arith) refl refl refl (λ fs ss n el. on_by (value a v) is fs (slot n x ∷ ss) el) r e y h₂
 
-  at_end : w ≡ End → (y : ClauseRecord) → y ≡ closed d.sizes (length d.clauses.items) x → Closes o d x ws (length (tail ws)) d y
-  at_end is y ey =
-      let n : length (tail ws) ≡ length ws - 1 = ap length (tail_is ws) ∙ length-drop 1 ws in
-      let one : 1 ≡ length ws - length (tail ws) = omega arith in
-      record {
-        shorter = omega arith;
-        grows = omega arith;
-        room = ready.room;
-        sizes = refl;
-        total = refl;
-        on = λ fs ss n el. on_by End is fs (slot n x ∷ ss) el
-            ∙ ap (λ q. walk (recorded d.sizes) d.sizes (record { open_clauses = ended fs; heads = length d.clauses.items }) (record { opens = ss; clauses = slice_set d.clauses.items n q }) (d.total - length (drop 1 ws)) (drop 1 ws)) (sym ey)
-            ∙ ap (λ h. walk (recorded d.sizes) d.sizes (record { open_clauses = ended fs; heads = h }) (record { opens = ss; clauses = slice_set d.clauses.items n y }) (d.total - length (drop 1 ws)) (drop 1 ws)) (sym (length-set d.clauses.items n y))
-            ∙ ap (λ i. goes (stored d n y) (ended fs) ss (drop i ws)) one;
-      }
+  at_end : w ≡ End → (y : ClauseRecord) → y ≡ closed d.sizes (length d.clauses.items) x → Closes o d x ws (tail ws) d y
+  at_end is y ey = record {
+    shorter = omega (arith, ap length (tail_is ws), length-drop 1 ws);
+    grows = omega arith;
+    room = ready.room;
+    sizes = refl;
+    total = refl;
+    on = λ fs ss n el. on_by End is fs (slot n x ∷ ss) el
+        ∙ ap (λ q. walk (recorded d.sizes) d.sizes (record { open_clauses = ended fs; heads = length d.clauses.items }) (record { opens = ss; clauses = slice_set d.clauses.items n q }) (d.total - length (drop 1 ws)) (drop 1 ws)) (sym ey)
+        ∙ ap (λ h. walk (recorded d.sizes) d.sizes (record { open_clauses = ended fs; heads = h }) (record { opens = ss; clauses = slice_set d.clauses.items n y }) (d.total - length (drop 1 ws)) (drop 1 ws)) (sym (length-set d.clauses.items n y))
+        ∙ ap (λ u. goes (stored d n y) (ended fs) ss u) (sym (tail_is ws));
+  }
 
   -- a head: the inner clause, then the rest of this one
   abbrev inner : Kind → Open
@@ -155,22 +144,13 @@ module _ (o : Open) (d : Draft) (x : ClauseRecord) (ws : List ℕ) (some : 1 ≤
   abbrev later_open : Open
   later_open = record { kind = o.kind; phase = Excepted; last = o.last; depth = o.depth }
 
-  at_head_on : (k' : Kind) → w ≡ Head k' → (left : ℕ) (e : Draft) (y : ClauseRecord) → Closes (inner k') (numbered k' d) (fresh k') (tail ws) left e y
-      → (u : List ℕ) → u ≡ drop (length (tail ws) - left) (tail ws) → (r : Result ℕ Refusal) (g : Draft) (q : ClauseRecord) → Reads later_open (stored e (length d.clauses.items) y) x u r g q → Reads o d x ws r g q
-  at_head_on k' is left e y c u eu r g q h =
-      let n : length (tail ws) ≡ length ws - 1 = ap length (tail_is ws) ∙ length-drop 1 ws in
-      let n' : length (drop 1 ws) ≡ length ws - 1 = length-drop 1 ws in
-      let c₁ : Closes (inner k') (numbered k' d) (fresh k') (drop 1 ws) left e y = subst (λ u. Closes (inner k') (numbered k' d) (fresh k') u left e y) (tail_is ws) c in
-      let low : left < length (drop 1 ws) = c₁.shorter in
-      let m : ℕ = length ws - left in
-      let em : 1 + (length (drop 1 ws) - left) ≡ m = omega arith in
-      let e₁ : drop (length (drop 1 ws) - left) (drop 1 ws) ≡ drop m ws = drop-drop (length (drop 1 ws) - left) 1 ws ∙ ap (λ i. drop i ws) em in
-      let e₂ : u ≡ drop m ws = eu ∙ (ap (λ v. drop (length v - left) v) (tail_is ws) ∙ e₁) in
-      let h₁ : Reads later_open (stored e (length d.clauses.items) y) x (drop m ws) r g q = subst (λ v. Reads later_open (stored e (length d.clauses.items) y) x v r g q) e₂ h in
-      later o later_open d (stored e (length d.clauses.items) y) x x ws m (omega arith) (omega arith) (omega (arith, c₁.grows, length-append d.clauses.items (fresh k' ∷ []), length-set e.clauses.items (length d.clauses.items) y)) c₁.sizes c₁.total refl
-      (λ fs ss n el. on_head k' is fs (slot n x ∷ ss) el
-      ∙ (c₁.on (frame_of o ∷ fs) (slot n x ∷ ss) (length d.clauses.items) (let z : suc (length fs) + 1 ≡ o.depth + 1 = omega arith in z) ∙ ap (λ v. goes (stored e (length d.clauses.items) y) (frame_of later_open ∷ fs) (slot n x ∷ ss) v) e₁))
-      r g q h₁
+  at_head_on : (k' : Kind) → w ≡ Head k' → (rest : List ℕ) (e : Draft) (y : ClauseRecord) → Closes (inner k') (numbered k' d) (fresh k') (tail ws) rest e y
+      → (r : Result (List ℕ) Refusal) (g : Draft) (q : ClauseRecord) → Reads later_open (stored e (length d.clauses.items) y) x rest r g q → Reads o d x ws r g q
+  at_head_on k' is rest e y c r g q h =
+      let c₁ : Closes (inner k') (numbered k' d) (fresh k') (drop 1 ws) rest e y = subst (λ u. Closes (inner k') (numbered k' d) (fresh k') u rest e y) (tail_is ws) c in
+      later o later_open d (stored e (length d.clauses.items) y) x x ws rest (omega (arith, c₁.shorter, length-drop 1 ws)) (omega (arith, c₁.grows, length-append d.clauses.items (fresh k' ∷ []), length-set e.clauses.items (length d.clauses.items) y)) c₁.sizes c₁.total refl
+      (λ fs ss n el. on_head k' is fs (slot n x ∷ ss) el ∙ c₁.on (frame_of o ∷ fs) (slot n x ∷ ss) (length d.clauses.items) (let z : suc (length fs) + 1 ≡ o.depth + 1 = omega arith in z))
+      r g q h
 
 refilled : (xs ys : List ClauseRecord) → length ys ≡ length xs → refill (length xs) xs ys ≡ ys
 refilled xs ys e = let le : length ys ≤ length ys = omega arith in rw (← e) (rw take-append-le (take-length ys))
@@ -218,13 +198,13 @@ module _ (k : Kind) (depth : ℕ) (start : Draft) (all : List ℕ) (number : ℕ
 
       -- the record is written through the slice that is lent for it
       pub along_end : w ≡ End → (y : ClauseRecord) → y ≡ closed d.sizes (length d.clauses.items) x → (lent : List ClauseRecord) → lent ≡ d.clauses.items
-          → Behind k depth start all (Ok (length (tail ws))) (record { clauses = record { items = refill (length d.clauses.items) d.clauses.items (slice_set lent number y) }; sizes = d.sizes; total = d.total })
+          → Behind k depth start all (Ok (tail ws)) (record { clauses = record { items = refill (length d.clauses.items) d.clauses.items (slice_set lent number y) }; sizes = d.sizes; total = d.total })
       along_end is y ey lent el = (
         d,
         (
           y,
           (
-            a.on (Ok (length (tail ws))) d y (at_end o d x ws some a.ready w ew is y ey),
+            a.on (Ok (tail ws)) d y (at_end o d x ws some a.ready w ew is y ey),
             ap (λ rs. record { clauses = record { items = refill (length d.clauses.items) d.clauses.items (slice_set rs number y) }; sizes = d.sizes; total = d.total }) el
                 ∙ ap (λ rs. record { clauses = record { items = rs }; sizes = d.sizes; total = d.total }) (refilled d.clauses.items (slice_set d.clauses.items number y) (length-set d.clauses.items number y))
                 ∙ ap (λ n. stored d n y) a.given,
@@ -236,20 +216,18 @@ module _ (k : Kind) (depth : ℕ) (start : Draft) (all : List ℕ) (number : ℕ
         pub along_head_stops : (r : Refusal) (e : Draft) → Behind k' o.depth d (tail ws) (Err r) e → Behind k depth start all (Err r) e
         along_head_stops r e h = a.on (Err r) d x (at_head_stops o d x ws some a.ready w ew k' is r h)
 
-        pub along_head : (left : ℕ) (e : Draft) → Behind k' o.depth d (tail ws) (Ok left) e → (u : List ℕ) → u ≡ drop (length (tail ws) - left) (tail ws)
-            → Along k depth start all number (record { kind = o.kind; phase = Excepted; last = o.last; depth = o.depth }) e x u
-        along_head left e (g, (y, (c, q))) u eu =
+        pub along_head : (rest : List ℕ) (e : Draft) → Behind k' o.depth d (tail ws) (Ok rest) e → Along k depth start all number (record { kind = o.kind; phase = Excepted; last = o.last; depth = o.depth }) e x rest
+        along_head rest e (g, (y, (c, q))) =
             let same : length (slice_set g.clauses.items (length d.clauses.items) y) ≡ length g.clauses.items = length-set g.clauses.items (length d.clauses.items) y in
             let one : length (d.clauses.items ++ fresh k' ∷ []) ≡ length d.clauses.items + 1 = length-append d.clauses.items (fresh k' ∷ []) in
-            let m : length u ≤ length (tail ws) = omega (arith, ap length eu, length-drop (length (tail ws) - left) (tail ws)) in
-            subst (λ f. Along k depth start all number (record { kind = o.kind; phase = Excepted; last = o.last; depth = o.depth }) f x u) (sym q) (record {
+            subst (λ f. Along k depth start all number (record { kind = o.kind; phase = Excepted; last = o.last; depth = o.depth }) f x rest) (sym q) (record {
               ready = record {
                 room = omega (arith, c.room);
                 deep = omega (arith, a.ready.deep, c.grows);
-                within = omega (arith, fewer, c.total);
+                within = omega (arith, fewer, c.shorter, c.total);
                 sized = subst Sized (sym c.sizes) a.ready.sized;
               };
               given = a.given;
               inside = omega (arith, a.inside, c.grows);
-              on = λ r f z h. a.on r f z (at_head_on o d x ws some a.ready w ew k' is left g y c u eu r f z h);
+              on = λ r f z h. a.on r f z (at_head_on o d x ws some a.ready w ew k' is rest g y c r f z h);
             })

@@ -1,5 +1,5 @@
 -- What the reader of a clause does. Assumes nothing.
-use Rattle.std.specs.Prelude.{◌≡◌, ℕ, ◌+◌, ◌-◌, ◌<◌, ◌≤◌, List, [], ◌∷◌, ◌++◌, length, drop, Some, None, Option, Ok, Err, Result, slice_set}
+use Rattle.std.specs.Prelude.{◌≡◌, ℕ, ◌+◌, ◌-◌, ◌<◌, ◌≤◌, List, [], ◌∷◌, ◌++◌, length, Some, None, Option, Ok, Err, Result, slice_set}
 use Rattle.policy.specs.declared.clause.Kind.{Kind}
 use Rattle.policy.specs.declared.draft.Phase.TheVariants.{Listing}
 use Rattle.policy.specs.declared.draft.Open.{Open}
@@ -39,23 +39,23 @@ stored d n x = record { clauses = record { items = slice_set d.clauses.items n x
 abbrev pub numbered : Kind → Draft → Draft
 numbered k d = record { clauses = record { items = d.clauses.items ++ fresh k ∷ [] }; sizes = d.sizes; total = d.total }
 
--- the clause whose record was x is read to its end: its record is y, and `left` words are left
-pub record Closes (o : Open) (d : Draft) (x : ClauseRecord) (ws : List ℕ) (left : ℕ) (e : Draft) (y : ClauseRecord) : Type 0 where
-  pub shorter : left < length ws
+-- the clause whose record was x is read to its end: its record is y, and `rest` is left of the words
+pub record Closes (o : Open) (d : Draft) (x : ClauseRecord) (ws rest : List ℕ) (e : Draft) (y : ClauseRecord) : Type 0 where
+  pub shorter : length rest < length ws
   pub grows : length d.clauses.items ≤ length e.clauses.items
   pub room : length e.clauses.items ≤ 256
   pub sizes : e.sizes ≡ d.sizes
   pub total : e.total ≡ d.total
   pub on : (fs : List Frame) (ss : List Slot) (n : ℕ) → length fs + 1 ≡ o.depth
-      → goes d (frame_of o ∷ fs) (slot n x ∷ ss) ws ≡ goes (stored e n y) (ended fs) ss (drop (length ws - left) ws)
+      → goes d (frame_of o ∷ fs) (slot n x ∷ ss) ws ≡ goes (stored e n y) (ended fs) ss rest
 
 -- the words are declined
 abbrev pub Stops : Open → Draft → ClauseRecord → List ℕ → Refusal → Type 0
 Stops o d x ws e =
     (fs : List Frame) (ss : List Slot) (n : ℕ) → length fs + 1 ≡ o.depth → goes d (frame_of o ∷ fs) (slot n x ∷ ss) ws ≡ Err e
 
-abbrev pub Reads : Open → Draft → ClauseRecord → List ℕ → Result ℕ Refusal → Draft → ClauseRecord → Type 0
-Reads o d x ws (Ok left) e y = Closes o d x ws left e y
+abbrev pub Reads : Open → Draft → ClauseRecord → List ℕ → Result (List ℕ) Refusal → Draft → ClauseRecord → Type 0
+Reads o d x ws (Ok rest) e y = Closes o d x ws rest e y
 Reads o d x ws (Err r) e y = Stops o d x ws r
 
 -- a clause whose head alone is read, inside `depth` others
@@ -63,9 +63,9 @@ abbrev pub just_open : Kind → ℕ → Open
 just_open k depth = record { kind = k; phase = Listing; last = record { attribute = 0; code = 0 }; depth = depth + 1 }
 
 -- a clause inside `depth` others is given the next number and read from the word behind its head on, and its record is stored
-abbrev pub Behind : Kind → ℕ → Draft → List ℕ → Result ℕ Refusal → Draft → Type 0
-Behind k depth d ws (Ok left) e =
-    (g : Draft) × ((y : ClauseRecord) × (Reads (just_open k depth) (numbered k d) (fresh k) ws (Ok left) g y × (e ≡ stored g (length d.clauses.items) y)))
+abbrev pub Behind : Kind → ℕ → Draft → List ℕ → Result (List ℕ) Refusal → Draft → Type 0
+Behind k depth d ws (Ok rest) e =
+    (g : Draft) × ((y : ClauseRecord) × (Reads (just_open k depth) (numbered k d) (fresh k) ws (Ok rest) g y × (e ≡ stored g (length d.clauses.items) y)))
 Behind k depth d ws (Err r) e = Stops (just_open k depth) (numbered k d) (fresh k) ws r
 
 -- the words of a policy, from its first on
@@ -73,16 +73,16 @@ abbrev pub Firsts : Draft → List ℕ → Result (Unit {0}) Refusal → Draft �
 Firsts d ws (Ok _) e = (goes d [] [] ws ≡ Ok (record { opens = []; clauses = e.clauses.items })) × (e.sizes ≡ d.sizes)
 Firsts d ws (Err x) e = goes d [] [] ws ≡ Err x
 
--- the first clause of the words, from its head to its end
-pub record Begins (d : Draft) (ws : List ℕ) (left : ℕ) (e : Draft) : Type 0 where
-  pub shorter : left < length ws
+-- the first clause of the words, from its head to its end, and what is left behind it
+pub record Begins (d : Draft) (ws rest : List ℕ) (e : Draft) : Type 0 where
+  pub shorter : length rest < length ws
   pub some : 1 ≤ length e.clauses.items
   pub sizes : e.sizes ≡ d.sizes
   pub total : e.total ≡ d.total
-  pub on : goes d [] [] ws ≡ goes e [] [] (drop (length ws - left) ws)
+  pub on : goes d [] [] ws ≡ goes e [] [] rest
 
-abbrev pub Begun : Draft → List ℕ → Result ℕ Refusal → Draft → Type 0
-Begun d ws (Ok left) e = Begins d ws left e
+abbrev pub Begun : Draft → List ℕ → Result (List ℕ) Refusal → Draft → Type 0
+Begun d ws (Ok rest) e = Begins d ws rest e
 Begun d ws (Err x) e = goes d [] [] ws ≡ Err x
 
 -- why what is no head, or not the first one, is declined outside every clause

@@ -1,5 +1,5 @@
 //! The reader of clauses, which calls itself for an exception.
-ghost use Rattle.std.specs.Prelude.{◌≡◌, ◌≤◌, [], length};
+ghost use Rattle.std.specs.Prelude.{◌≡◌, ◌≤◌, [], length, Ok, Err, MatchResult};
 ghost use Rattle.policy.specs.Reads.{Ready, Behind, Begun, Firsts, just_open, numbered, stray_reason};
 ghost use Rattle.policy.specs.Sized.{Sized};
 ghost use Rattle.policy.specs.Stands.{Drafted};
@@ -30,10 +30,15 @@ impl Open {
 
 impl Draft {
     /// Reads a clause inside `depth` others from the word behind its head on. It has the next number.
-    /// Says how many words are left after its END.
-    fn read_behind(&mut self, kind: Kind, depth: usize, words: &[u32]) -> Result<usize, Refusal>
+    /// Gives back the words after its END.
+    fn read_behind<'a>(
+        &mut self,
+        kind: Kind,
+        depth: usize,
+        words: &'a [u32],
+    ) -> Result<&'a [u32], Refusal>
         requires { Ready (just_open kind depth) (numbered kind self.old) words.now }
-        ensures { Behind kind depth self.old words.now result self.new }
+        ensures { MatchResult result (λ rest. Behind kind depth self.old words.now (Ok rest.now) self.new) (λ e. Behind kind depth self.old words.now (Err e) self.new) }
     {
         let number = self.clauses.len();
         let mut own = ClauseRecord::opened(kind);
@@ -48,8 +53,7 @@ impl Draft {
             left = rest;
             match word {
                 Word::Head(inner) => {
-                    let behind = self.read_behind(inner, top.depth, rest)?;
-                    left = &rest[rest.len() - behind..];
+                    left = self.read_behind(inner, top.depth, rest)?;
                     top.phase = Phase::Excepted;
                 }
                 Word::Value(value) => {
@@ -60,17 +64,17 @@ impl Draft {
                 Word::End => {
                     own.close(self.sizes, self.clauses.len() as u16);
                     self.clauses[number] = own;
-                    return Ok(rest.len());
+                    return Ok(rest);
                 }
             }
         }
         Err(Reason::MisplacedWord.at(self.total))
     }
 
-    /// Reads the first clause from its head on, and says how many words are left after its END.
-    fn read_first(&mut self, words: &[u32]) -> Result<usize, Refusal>
+    /// Reads the first clause from its head on, and gives back the words after its END.
+    fn read_first<'a>(&mut self, words: &'a [u32]) -> Result<&'a [u32], Refusal>
         requires { (self.old.clauses.items ≡ []) × ((self.old.total ≡ length words.now) × (Sized self.old.sizes)) }
-        ensures { Begun self.old words.now result self.new }
+        ensures { MatchResult result (λ rest. Begun self.old words.now (Ok rest.now) self.new) (λ e. Begun self.old words.now (Err e) self.new) }
     {
         let [first, rest @ ..] = words else {
             return Err(Reason::MisplacedWord.at(0));
@@ -86,12 +90,12 @@ impl Draft {
         requires { (self.old.clauses.items ≡ []) × ((self.old.total ≡ length words.now) × (Sized self.old.sizes)) }
         ensures { Firsts self.old words.now result self.new }
     {
-        let left = self.read_first(words)?;
-        if left == 0 {
+        let rest = self.read_first(words)?;
+        let [next, ..] = rest else {
             return Ok(());
-        }
-        let place = words.len() - left;
-        Err(stray(word_of(words[place])).at(place))
+        };
+        let place = words.len() - rest.len();
+        Err(stray(word_of(*next)).at(place))
     }
 
     /// The records of the policy that the words spell.

@@ -1,8 +1,7 @@
 use Rattle.std.proofs.Common.{◌-◌, ◌≤◌, length, sym, ◌≡◌, Err, ap, ◌∙◌, rules}
 use Rattle.std.proofs.lemmas.Result.{err_from_is_err_and}
-use Rattle.std.proofs.lemmas.List.{take_rest}
 use Rattle.policy.specs.Walk.{closed}
-use Rattle.policy.proofs.Steps.{tail, along_start, along_none, along_fault, along_except, along_value, along_end, along_head_stops, along_head}
+use Rattle.policy.proofs.Steps.{along_start, along_none, along_fault, along_except, along_value, along_end, along_head_stops, along_head}
 use Rattle.policy.proofs.draft.Draft.+read_behind.Goals as goal
 
 pub loop-left-init : goal.loop-left-init
@@ -20,17 +19,17 @@ returns-in_err-word t c =
     let h = along_fault _ _ _ _ _ _ _ _ _ c.loop-left.invariant.along some c.in_err-word.field-0.0.reason (sym c.admitted.ensures ∙ e) in
     rw (p.1, p.2, r) h
 
-pub returns-in_err-behind-in-Head : goal.returns-in_err-behind-in-Head
-returns-in_err-behind-in-Head t c =
+pub returns-in_err-left-in-Head : goal.returns-in_err-left-in-Head
+returns-in_err-left-in-Head t c =
     let some : 1 ≤ length c.loop-left.left.now = search rules in
-    let p = err_from_is_err_and c.from_residual-in_err-behind-in-Head.result c.from_residual-in_err-behind-in-Head.ensures.1 in
-    let h = along_head_stops _ _ _ _ _ _ _ _ _ c.loop-left.invariant.along some c.in_ok-word.word (sym c.admitted.ensures ∙ search rules) c.in-Head.inner c.in-Head.is c.in_err-behind-in-Head.field-0.0 c.read_behind.new.self c.in_err-behind-in-Head.ensures in
+    let p = err_from_is_err_and c.from_residual-in_err-left-in-Head.result c.from_residual-in_err-left-in-Head.ensures.1 in
+    let h = along_head_stops _ _ _ _ _ _ _ _ _ c.loop-left.invariant.along some c.in_ok-word.word (sym c.admitted.ensures ∙ search rules) c.in-Head.inner c.in-Head.is c.in_err-left-in-Head.field-0.0 c.read_behind.new.self c.in_err-left-in-Head.ensures in
     rw (p.1, p.2) h
 
 pub loop-left-preserved-in-Head : goal.loop-left-preserved-in-Head
 loop-left-preserved-in-Head t c =
     let some : 1 ≤ length c.loop-left.left.now = search rules in
-    let more = along_head _ _ _ _ _ _ _ _ _ c.loop-left.invariant.along some c.in_ok-word.word (sym c.admitted.ensures ∙ search rules) c.in-Head.inner c.in-Head.is c.in_ok-behind-in-Head.behind c.read_behind.new.self c.in_ok-behind-in-Head.ensures _ (take_rest (tail c.loop-left.left.now) (length (tail c.loop-left.left.now) - c.in_ok-behind-in-Head.behind)) in
+    let more = along_head _ _ _ _ _ _ _ _ _ c.loop-left.invariant.along some c.in_ok-word.word (sym c.admitted.ensures ∙ search rules) c.in-Head.inner c.in-Head.is c.in_ok-left-in-Head.left.now c.read_behind.new.self c.in_ok-left-in-Head.ensures in
     record { shorter = search rules; along = more }
 
 pub loop-left-preserved-in-Value : goal.loop-left-preserved-in-Value
