@@ -1,8 +1,10 @@
 -- The walk over the values that one flow leads on.
-use Rattle.std.proofs.Common.{◌≡◌, ℕ, zero, suc, ◌+◌, ◌*◌, ◌<◌, ◌≤◌, Bool, true, false, ◌≢◌, List, [], ◌∷◌, ◌++◌, length, get_or, set, sym, refl, ap, ◌∙◌, subst, true≢false, arith}
+use Rattle.std.proofs.Common.{◌≡◌, ℕ, zero, suc, ◌+◌, ◌*◌, ◌<◌, ◌≤◌, Bool, true, false, Option, None, Some, ◌≢◌, List, [], ◌∷◌, ◌++◌, length, get_or, set, sym, refl, ap, ◌∙◌, subst, true≢false, arith}
 use native.Mathlib.Decide.{dec_lt, ℕ_discrete}
 use Rattle.std.specs.List.{All, filter, range_with_len}
-use Rattle.std.proofs.lemmas.List.{length-set}
+use Rattle.std.specs.Iterator.{YieldsFirst, Yields}
+use Rattle.std.proofs.lemmas.List.{length-set, map-id}
+use Rattle.std.proofs.lemmas.Iterator.Consumers.{YieldsList-from_first, YieldsList-turn, YieldsList-end}
 use Rattle.std.proofs.lemmas.List.Elements.{All-append, All-cons, All-nil}
 use Rattle.std.proofs.lemmas.Bool.{eq-eqb}
 use Rattle.lattice.specs.Sets.{has, values_of}
@@ -64,14 +66,24 @@ module _ (s : ℕ) where
   unfolding values_of
   values_held = listed (λ w. (w < 64) × holds s w) s 0 64 (λ w l h. (l, h))
 
-  -- a value that comes is in the set
-  pub value_held : (w k : ℕ) → (k < length (values_of s)) × (w ≡ get_or (values_of s) k w) → (w < 64) × holds s w
+  value_held : (w k : ℕ) → (k < length (values_of s)) × (w ≡ get_or (values_of s) k w) → (w < 64) × holds s w
   value_held w k turn = subst (λ v. (v < 64) × holds s v) (sym turn.1) (values_held k w turn.0)
 
   -- what holds of all that come holds of each value of the set
   pub all_held : (P : ℕ → Type 0) → All P (values_of s) → (w : ℕ) → w < 64 → holds s w → P w
   unfolding values_of
   all_held P all w l h = found P s 0 64 all w (omega arith) l h
+
+-- what the iterator of a set gives: values of the set, and in the end all of them
+module _ (s : ℕ) (all came left more : List ℕ) (r : Option ℕ) (start : all ≡ values_of s) (came_by : Yields (YieldsFirst {A = ℕ} (λ rest. rest)) all came left)
+    (step : YieldsFirst {A = ℕ} (λ rest. rest) left r more) where
+  pub value_came : (w : ℕ) → r ≡ Some w → (w < 64) × holds s w
+  value_came w is =
+      value_held s w _ (YieldsList-turn (YieldsList-from_first (λ x. x) (λ rest. rest) (values_of s) start) came left came_by r more w is step)
+
+  pub all_came : r ≡ None → came ≡ values_of s
+  all_came is =
+      sym (map-id came) ∙ (YieldsList-end (YieldsList-from_first (λ x. x) (λ rest. rest) (values_of s) start) came left came_by r more is step).0
 
 -- flow f leads value w on
 abbrev pub Onward : Graph → List ℕ → ℕ → ℕ → ℕ → Type 0

@@ -1,11 +1,10 @@
 -- The sets of the nodes, and the list of the nodes that have any values.
-use Rattle.std.proofs.Common.{◌≡◌, ℕ, zero, suc, ◌+◌, ◌-◌, ◌<◌, ◌≤◌, ◌≢◌, ◌⊎◌, List, [], ◌∷◌, ◌++◌, length, get_or, take, drop, set, sum, sum_by, bit_or, replicate, ⊎_elim, sym, refl, ap, ◌∙◌, subst, inl, inr, arith, below_more}
-use native.Mathlib.Decide.{dec_lt, ℕ_discrete}
-use Rattle.std.proofs.lemmas.List.{get_or-set_same, get_or-set_other, get_or_past, get_or_append_left, get_or-append_right, get_or-drop, length-append, length-drop, length-set, length-replicate}
-use lib.Bits.{or_zero_l, or_self}
+use Rattle.std.proofs.Common.{◌≡◌, ℕ, zero, suc, ◌+◌, ◌-◌, ◌<◌, ◌≤◌, ◌≢◌, List, [], ◌∷◌, ◌++◌, length, get_or, take, drop, set, sum, sum_by, replicate, sym, refl, ap, ◌∙◌, arith}
+use native.Mathlib.Decide.{ℕ_discrete}
+use Rattle.std.proofs.lemmas.List.{get_or-set_same, get_or-set_other, get_or_append_left, get_or-append_right, get_or-drop, length-append, length-drop, length-set, length-replicate}
 use Rattle.std.proofs.Math.Seq.{get_or-append_seam}
 use Rattle.std.proofs.lemmas.List.Sums.{sum_by-cons, sum_by-set}
-use Rattle.flows.specs.Fronts.{some, Empty, Lists, Listed}
+use Rattle.flows.specs.Fronts.{some, Empty, Listed}
 use Rattle.flows.specs.Rounds.{Cleared}
 
 -- a list with zeros alone
@@ -40,14 +39,6 @@ lists_none sets empty = record {
   lists = record { long = empty.long; there = λ n ne. absurd (ne (empty.none n)); within = λ j lj. absurd (omega arith) };
   once = sym (some_sum_none sets empty.none);
 }
-
--- a listed node is one of the nodes
-pub listed_within : (sets nodes : List ℕ) → Lists sets nodes → (j : ℕ) → j < length nodes → get_or nodes j 0 < 4096
-listed_within sets nodes l j lj = go (dec_lt (get_or nodes j 0) 4096)
-  where
-    go : Dec (get_or nodes j 0 < 4096) → get_or nodes j 0 < 4096
-    go (yes less) = less
-    go (no more) = absurd (l.within j lj (get_or_past sets (get_or nodes j 0) 0 (omega (arith, l.long))))
 
 module _ (sets nodes : List ℕ) (n s : ℕ) (l : Listed sets nodes) (room : n < 4096) where
   here : get_or (set sets n s) n 0 ≡ s
@@ -154,36 +145,3 @@ clearing_end before sets nodes i l all c = record { long = c.long; none = λ n. 
         let at = l.lists.there n ne in
         let below = at.1 in
         sym (ap (λ k. get_or sets k 0) at.2) ∙ c.done at.0 (omega (arith, below))
-
--- the sets that are listed before place i are taken
-pub record Taking (own other nodes : List ℕ) (i : ℕ) : Type 0 where
-  pub long : length own ≡ 4096
-  pub done : (j : ℕ) → j < i → get_or own (get_or nodes j 0) 0 ≡ get_or other (get_or nodes j 0) 0
-  pub either : (n : ℕ) → (get_or own n 0 ≡ 0) ⊎ (get_or own n 0 ≡ get_or other n 0)
-
-pub taking_more : (own other nodes : List ℕ) (i : ℕ) → get_or nodes i 0 < 4096 → Taking own other nodes i
-    → Taking (set own (get_or nodes i 0) (bit_or (get_or own (get_or nodes i 0) 0) (get_or other (get_or nodes i 0) 0))) other nodes (i + 1)
-taking_more own other nodes i room t = record {
-  long = length-set own m s ∙ t.long;
-  done = below_more (λ j. get_or (set own m s) (get_or nodes j 0) 0 ≡ get_or other (get_or nodes j 0) 0) i (λ j lj. go (get_or nodes j 0) (t.done j lj) (ℕ_discrete (get_or nodes j 0) m)) here;
-  either = λ n. which n (ℕ_discrete n m);
-}
-  where
-    m : ℕ
-    m = get_or nodes i 0
-
-    s : ℕ
-    s = bit_or (get_or own m 0) (get_or other m 0)
-
-    here : get_or (set own m s) m 0 ≡ get_or other m 0
-    here = get_or-set_same own m s 0 (omega (arith, t.long)) ∙ ⊎_elim
-        (λ z. ap (λ x. bit_or x (get_or other m 0)) z ∙ or_zero_l (get_or other m 0))
-        (λ e. ap (λ x. bit_or x (get_or other m 0)) e ∙ or_self (get_or other m 0)) (t.either m)
-
-    go : (n : ℕ) → get_or own n 0 ≡ get_or other n 0 → Dec (n ≡ m) → get_or (set own m s) n 0 ≡ get_or other n 0
-    go n was (yes e) = subst (λ k. get_or (set own m s) k 0 ≡ get_or other k 0) (sym e) here
-    go n was (no ne) = get_or-set_other own m n s 0 ne ∙ was
-
-    which : (n : ℕ) → Dec (n ≡ m) → (get_or (set own m s) n 0 ≡ 0) ⊎ (get_or (set own m s) n 0 ≡ get_or other n 0)
-    which n (yes e) = inr (subst (λ k. get_or (set own m s) k 0 ≡ get_or other k 0) (sym e) here)
-    which n (no ne) = ⊎_elim (λ z. inl (get_or-set_other own m n s 0 ne ∙ z)) (λ e. inr (get_or-set_other own m n s 0 ne ∙ e)) (t.either n)

@@ -4,6 +4,7 @@ ghost use Rattle.flows.specs.Fronts.{Empty, Lists};
 
 use arrayvec::ArrayVec;
 use std::marker::Model;
+use std::mem;
 
 /// A set of values for each of 4,096 nodes, and the nodes whose sets are not empty, each once.
 ///
@@ -85,11 +86,8 @@ impl Front {
         ensures long { length self.new ≡ 4096 }
         ensures emptied { Empty other.new }
     {
-        // A swap would move 40 KiB, and the nodes that have values are mostly few.
-        self.clear();
-        for node in other.nodes() {
-            self.add(*node, other.at(*node as usize));
-        }
+        mem::swap(&mut self.sets, &mut other.sets);
+        mem::swap(&mut self.nodes, &mut other.nodes);
         other.clear();
     }
 }

@@ -1,11 +1,8 @@
 -- Each turn leads the next fresh value on, or finds it there.
-use Rattle.std.proofs.Common.{get_or, ◌∙◌, sym, rules}
-use Rattle.std.proofs.lemmas.List.{map-id}
-use Rattle.std.proofs.lemmas.Iterator.Consumers.{YieldsList-from_first, YieldsList-turn, YieldsList-end}
-use Rattle.lattice.specs.Sets.{values_of}
+use Rattle.std.proofs.Common.{get_or, ◌∙◌, rules}
 use Rattle.flows.specs.Graph.{no_flow}
 use Rattle.flows.proofs.Sets.{bit_clear, bit_set}
-use Rattle.flows.proofs.Leads.{value_held, lead_end, lead_made, lead_none}
+use Rattle.flows.proofs.Leads.{value_came, all_came, lead_end, lead_made, lead_none}
 use Rattle.flows.proofs.Relabels.{same_verified}
 use Rattle.flows.proofs.Traces.{same_more}
 use Rattle.flows.proofs.leading.Round.lead_on.Goals as goal
@@ -13,13 +10,13 @@ use Rattle.flows.proofs.leading.Round.lead_on.Goals.{else-made-ne0-via-then-made
 
 pub bounds-self-value : goal.bounds-self-value
 bounds-self-value c =
-    (value_held (get_or c.args.self.now.fresh.now (get_or c.args.self.now.chart.flows.now c.args.number no_flow).«from» 0) _ _
-    (YieldsList-turn (YieldsList-from_first (λ x. x) (λ rest. rest) (values_of (get_or c.args.self.now.fresh.now (get_or c.args.self.now.chart.flows.now c.args.number no_flow).«from» 0)) (search rules)) c.loop-value.yielded _ c.loop-value.yielded_by _ _ c.in-Some.value c.in-Some.is c.next.ensures.steps)).0
+    (value_came (get_or c.args.self.now.fresh.now (get_or c.args.self.now.chart.flows.now c.args.number no_flow).«from» 0) _ c.loop-value.yielded _ _ _ (search rules)
+    c.loop-value.yielded_by c.next.ensures.steps _ c.in-Some.is).0
 
 pub loop-value-preserved-then-wave-flow-eq0 : goal.loop-value-preserved-then-wave-flow-eq0
 loop-value-preserved-then-wave-flow-eq0 c =
-    let held = value_held (get_or c.args.self.now.fresh.now (get_or c.args.self.now.chart.flows.now c.args.number no_flow).«from» 0) _ _
-    (YieldsList-turn (YieldsList-from_first (λ x. x) (λ rest. rest) (values_of (get_or c.args.self.now.fresh.now (get_or c.args.self.now.chart.flows.now c.args.number no_flow).«from» 0)) (search rules)) c.loop-value.yielded _ c.loop-value.yielded_by _ _ c.in-Some.value c.in-Some.is c.next.ensures.steps) in
+    let held = value_came (get_or c.args.self.now.fresh.now (get_or c.args.self.now.chart.flows.now c.args.number no_flow).«from» 0) _ c.loop-value.yielded _ _ _ (search rules)
+    c.loop-value.yielded_by c.next.ensures.steps _ c.in-Some.is in
     let lead = c.loop-value.invariant.lead in
     record {
       same = same_more c.loop-value.invariant.same c.put.ensures.same;
@@ -39,6 +36,5 @@ loop-value-preserved c = record {
 
 pub returns-clause-led : goal.returns-clause-led
 returns-clause-led c =
-    let over =
-    YieldsList-end (YieldsList-from_first (λ x. x) (λ rest. rest) (values_of (get_or c.args.self.now.fresh.now (get_or c.args.self.now.chart.flows.now c.args.number no_flow).«from» 0)) (search rules)) c.loop-value.yielded _ c.loop-value.yielded_by _ _ c.in-None.is c.next.ensures.steps in
-    lead_end _ _ _ _ _ _ _ _ _ _ _ _ _ _ c.loop-value.invariant.lead (sym (map-id c.loop-value.yielded) ∙ over.0)
+    lead_end _ _ _ _ _ _ _ _ _ _ _ _ _ _ c.loop-value.invariant.lead
+    (all_came _ _ c.loop-value.yielded _ _ _ (search rules) c.loop-value.yielded_by c.next.ensures.steps c.in-None.is)

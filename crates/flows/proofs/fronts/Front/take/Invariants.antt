@@ -1,6 +1,0 @@
--- The sets of the nodes before this place are taken.
-use Rattle.flows.proofs.Listings.{Taking}
-use Rattle.flows.proofs.fronts.Front.take.Given as goal
-
-abbrev pub invariant-loop-node : goal.invariant-loop-node
-invariant-loop-node l = Taking l.self l.fn.other l.node-items l.node-index
