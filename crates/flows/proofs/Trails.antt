@@ -70,7 +70,4 @@ complete G W joined bounded small marked closed fs b y path =
     (end.0, omega (arith, end.1))
 
 pub shortest_paths : CertificatesGiveShortestPaths
-shortest_paths G W fit small all = (
-  reached G W fit.joined all.0 all.1,
-  complete G W fit.joined fit.bounded small all.2 all.3,
-)
+shortest_paths G W joined bounded small all = (reached G W joined all.0 all.1, complete G W joined bounded small all.2 all.3)

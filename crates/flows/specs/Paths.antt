@@ -3,7 +3,7 @@ use Rattle.std.specs.Prelude.{◌≡◌, ℕ, zero, suc, ◌/◌, ◌%◌, ◌<�
 use Rattle.flows.specs.declared.records.FlowRecord.{FlowRecord}
 use Rattle.flows.specs.Graph.{Graph, holds, no_flow, node_at, FlowPath}
 use Rattle.flows.specs.Certificate.{distance, arrival, Near, Certified}
-use Rattle.flows.specs.Fitting.{SmallMarks, Fitting}
+use Rattle.flows.specs.Fitting.{Joined, Bounded, SmallMarks}
 
 -- the last k hops by which value x came to node n, as the workspace has them
 unfoldable pub hops : List ℕ → List FlowRecord → ℕ → ℕ → ℕ → List ℕ
@@ -21,4 +21,4 @@ abbrev pub Complete : Graph → List ℕ → Type 0
 Complete G W = (fs : List ℕ) (n v : ℕ) → FlowPath G fs n v → Near G W n v (length fs)
 
 abbrev pub CertificatesGiveShortestPaths : Type 0
-CertificatesGiveShortestPaths = (G : Graph) (W : List ℕ) → Fitting G W → SmallMarks G → Certified G W → Reached G W × Complete G W
+CertificatesGiveShortestPaths = (G : Graph) (W : List ℕ) → Joined G → Bounded G 64 → SmallMarks G → Certified G W → Reached G W × Complete G W

@@ -44,7 +44,7 @@ returns c =
     let small_marks : SmallMarks G = λ n ln. subst (λ k. k < 2 ^ 64) (sym (same_marks _ _ same n)) (c.begin-fresh.ensures.begun.small n ln) in
     let certified : Certified G c.run.new.workspace =
     subst (λ k. Certified (graph c.run.new.nodes c.args.flows.now c.args.rows.now k F) c.run.new.workspace) heads c.run.ensures.certified in
-    let paths = shortest_paths G c.run.new.workspace fits small_marks certified in
+    let paths = shortest_paths G c.run.new.workspace fits.joined fits.bounded small_marks certified in
     record {
       same = relabeled_more _ _ _ _ c.begin-fresh.ensures.begun.same same;
       nodes_long = nodes_long;
