@@ -55,9 +55,9 @@ fn take_step(inventory: &mut Inventory, random: &mut Random) -> Result<(), Refus
 
 // A flow between any two nodes by any step; whether it was drawn, since it may stand already.
 fn draw_flow(inventory: &mut Inventory, random: &mut Random) -> bool {
-    let from = random.next() % 4096;
-    let to = random.next() % 4096;
-    let step = random.next() % 32;
+    let from = random.next() % NODES as u64;
+    let to = random.next() % NODES as u64;
+    let step = random.next() % (STEPS as u64 + 1);
     inventory
         .draw(from as usize, to as usize, step as usize)
         .is_ok()

@@ -13,6 +13,7 @@ const SIZES: Sizes = Sizes {
     types: 7,
 };
 
+// The calls in short: written out, most of them would take five lines in the lists below.
 fn enter(store: u64) -> Call {
     Call::Enter {
         store,
@@ -165,7 +166,8 @@ fn room(words: usize) -> usize {
         .count()
 }
 
-// Which of the declared sets {1}, {2} and {63} an inventory of this size takes.
+// Which of the declared sets {1}, {2} and {63} an inventory of this size takes: three answers, named as the line shows them.
+// The inventory is asked itself, since `memory::run` takes its sizes from ladders, and none has 0, 1 or 65 levels.
 fn show_size(rt: &impl Print, size: u8) -> anyhow::Result<()> {
     let mut memory = Memory::new();
     let sizes = Sizes {

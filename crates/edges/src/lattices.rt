@@ -1,6 +1,24 @@
 //! Tables, ladders and pairs at their limits.
 use crate::outcome::Outcome;
-use lattice::{Ladder, Lattice, Refusal, Table};
+use lattice::{Ladder, Lattice, Refusal, Scheme, Table};
+
+/// A scheme of four ladders.
+pub type Ladders = Scheme<Ladder, Ladder, Ladder, Ladder>;
+
+/// The ladders with so many levels.
+pub fn ladders(
+    store: usize,
+    purpose: usize,
+    role: usize,
+    types: usize,
+) -> Result<Ladders, Refusal> {
+    Ok(Scheme {
+        store: Ladder::new(store)?,
+        purpose: Ladder::new(purpose)?,
+        role: Ladder::new(role)?,
+        types: Ladder::new(types)?,
+    })
+}
 
 // Reads the rows into a table of five values, and shows its size before and after.
 fn show_rows(rt: &impl Print, what: &str, rows: &[u64]) -> anyhow::Result<()> {

@@ -1,6 +1,6 @@
 //! Memory for a small inventory, and a number that tells whether any of it was changed.
+use crate::lattices;
 use inventory::{FlowRecord, NodeRecord};
-use lattice::{Ladder, Refusal, Scheme};
 use policy::{Policy, Vocabulary};
 use runs::{Answer, Call};
 use std::alloc::Global;
@@ -69,22 +69,9 @@ impl Memory {
     }
 }
 
-type Ladders = Scheme<Ladder, Ladder, Ladder, Ladder>;
-
-// Ladders of 2, 2, 2 and 7 levels.
-fn ladders() -> Result<Ladders, Refusal> {
-    let two = Ladder::two();
-    Ok(Scheme {
-        store: two,
-        purpose: two,
-        role: two,
-        types: Ladder::new(7)?,
-    })
-}
-
 /// Runs the calls over fresh memory: gives the answers and the digest. Policy 0 is for the ladders, policy 1 for sizes of 2.
 pub fn run(heap: Global, calls: &[Call]) -> anyhow::Result<(Vec<Option<Answer>>, u64)> {
-    let scheme = ladders()?;
+    let scheme = lattices::ladders(2, 2, 2, 7)?;
     let mut memory = Memory::new();
     let mut policies = [Policy::new(), Policy::new()];
     policies[0].read(&[0x2000_0000, 0x5000_0000], &scheme)?;

@@ -1,8 +1,8 @@
 //! Policy words at their limits.
 ghost use Rattle.std.specs.Prelude.{◌<◌};
 
+use crate::lattices::{Ladders, ladders};
 use crate::outcome::Outcome;
-use lattice::{Ladder, Refusal, Scheme};
 use policy::{Policy, Vocabulary};
 use std::alloc::{AllocError, Global};
 use std::iter;
@@ -28,17 +28,6 @@ const ADVERTS: [u32; 9] = [
     END,
     END,
 ];
-
-type Ladders = Scheme<Ladder, Ladder, Ladder, Ladder>;
-
-fn ladders(store: usize, purpose: usize, role: usize, types: usize) -> Result<Ladders, Refusal> {
-    Ok(Scheme {
-        store: Ladder::new(store)?,
-        purpose: Ladder::new(purpose)?,
-        role: Ladder::new(role)?,
-        types: Ladder::new(types)?,
-    })
-}
 
 // Reads the words into a policy, and shows the data type size that it is for before and after.
 fn show_words(rt: &impl Print, what: &str, words: &[u32], scheme: &Ladders) -> anyhow::Result<()> {

@@ -15,7 +15,7 @@ fn tell_verdict(rt: &impl Print, verdict: Verdict) -> anyhow::Result<()> {
     Ok(())
 }
 
-fn tell_answer(rt: &impl Print, request: Request, answer: &Option<Answer>) -> anyhow::Result<()> {
+fn tell_answer(rt: &impl Print, request: Request, answer: Option<&Answer>) -> anyhow::Result<()> {
     match (request, answer) {
         (Request::Enter(_), Some(Answer::Numbered(number))) => println!(rt; ": node {number}")?,
         (_, Some(Answer::Numbered(number))) => println!(rt; ": step {number}")?,
@@ -36,7 +36,7 @@ pub fn tell(
 ) -> anyhow::Result<()> {
     for (request, answer) in requests.iter().zip(answers) {
         print!(rt; "  {request}")?;
-        tell_answer(rt, *request, answer)?;
+        tell_answer(rt, *request, answer.as_ref())?;
     }
     Ok(())
 }
