@@ -34,7 +34,7 @@ const FLOW: FlowRecord = FlowRecord {
     step: 1,
 };
 
-// Memory for four nodes and four flows.
+// Memory for four nodes and four flows. Each test makes its own inventory over it: an inventory borrows what it is made of.
 fn memory() -> ([NodeRecord; 4], [FlowRecord; 4], [u32; 512]) {
     ([NODE; 4], [FLOW; 4], [7; 512])
 }
@@ -468,12 +468,12 @@ fn sizes_past_64_become_64(rt: HostRuntime) {
     assert_eq!(rt; inventory.step(&[0; 64]), Ok(1));
 }
 
-// How many of three nodes find room with so much workspace.
+// How many of three nodes find room with so much workspace: all three are tried.
 fn room_with(workspace: &mut [u32]) -> usize {
     let mut nodes = [NODE; 3];
     let mut inventory = Inventory::new(SIZES, &mut nodes, &mut [], workspace);
     (0..3)
-        .take_while(|number| inventory.enter(0, 0, 0) == Ok(*number))
+        .filter(|number| inventory.enter(0, 0, 0) == Ok(*number))
         .count()
 }
 
@@ -811,14 +811,14 @@ fn nodes_are_4096_at_most(rt: HostRuntime) -> Result<(), Fail> {
     Ok(())
 }
 
+// A flow from this node to each of so many.
+fn draw_from(inventory: &mut Inventory, from: usize, count: usize) -> Result<(), Refusal> {
+    (0..count).try_for_each(|to| inventory.draw(from, to, 0))
+}
+
 // A flow from each of the nodes to each of them.
 fn draw_all(inventory: &mut Inventory, count: usize) -> Result<(), Refusal> {
-    for from in 0..count {
-        for to in 0..count {
-            inventory.draw(from, to, 0)?;
-        }
-    }
-    Ok(())
+    (0..count).try_for_each(|from| draw_from(inventory, from, count))
 }
 
 #[test]

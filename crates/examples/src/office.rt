@@ -5,22 +5,16 @@ use runs::Call;
 
 pub type Office = Scheme<Ladder, Table, Ladder, Pair<Table, Ladder>>;
 
-// Nothing, two that are unrelated, and anything.
+// Nothing, two that are unrelated, and anything. The program week has the same rows: it is no library, and lends nothing.
 const DIAMOND: [u64; 4] = [0b1111, 0b1010, 0b1100, 0b1000];
-
-fn diamond() -> Result<Table, Refusal> {
-    let mut table = Table::new();
-    table.read(&DIAMOND)?;
-    Ok(table)
-}
 
 pub fn office() -> Result<Office, Refusal> {
     Ok(Scheme {
         store: Ladder::two(),
-        purpose: diamond()?,
+        purpose: Table::try_from(&DIAMOND[..])?,
         role: Ladder::two(),
         types: Pair {
-            first: diamond()?,
+            first: Table::try_from(&DIAMOND[..])?,
             second: Ladder::new(3)?,
         },
     })

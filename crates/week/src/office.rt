@@ -21,21 +21,15 @@ const POLICY: [u32; 8] = [
     0x5000_0000,
 ];
 
-fn table(rows: &[u64]) -> Result<Table, Refusal> {
-    let mut table = Table::new();
-    table.read(rows)?;
-    Ok(table)
-}
-
 /// The four lattices, or why one of them is none.
 pub fn scheme() -> Result<Office, Refusal> {
-    let kinds = table(&DIAMOND)?;
+    let kinds = Table::try_from(&DIAMOND[..])?;
     let states = Ladder::new(3)?;
     lattice::fits(&kinds, &states)?;
     Ok(Scheme {
-        store: table(&TWO)?,
-        purpose: table(&DIAMOND)?,
-        role: table(&TWO)?,
+        store: Table::try_from(&TWO[..])?,
+        purpose: Table::try_from(&DIAMOND[..])?,
+        role: Table::try_from(&TWO[..])?,
         types: Pair {
             first: kinds,
             second: states,
