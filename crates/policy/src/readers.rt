@@ -99,6 +99,7 @@ impl Draft {
     }
 
     /// The records of the policy that the words spell.
+    // `Sized` is asked of three functions that have no draft, so a draft that carried it would spare two clauses of five.
     pub(crate) fn read(words: &[u32], sizes: Sizes) -> Result<Draft, Refusal>
         requires { Sized sizes }
         ensures { Drafted sizes words.now result }
