@@ -1,5 +1,5 @@
 //! Any lattice written as rows of bits, and as a table.
-ghost use Rattle.std.specs.Prelude.{◌≡◌, OnOk, is_ok, length, take, nat_le};
+ghost use Rattle.std.specs.Prelude.{◌≡◌, OnOk, Some, codes, is_ok, length, take, nat_le};
 ghost use Rattle.lattice.specs.Order.{table};
 ghost use Rattle.choice.specs.Rows.{row, all_rows, with_rows, table_order};
 
@@ -14,6 +14,8 @@ use std::fmt;
 pub struct TooFewEntries;
 
 impl fmt::Display for TooFewEntries {
+    ghost output = { λ _. Some (codes "there are fewer entries than values") };
+
     fn fmt<W: fmt::Write>(&self, f: &mut fmt::Formatter<W>) -> fmt::Result {
         f.write_str("there are fewer entries than values")
     }

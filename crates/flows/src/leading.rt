@@ -58,6 +58,7 @@ impl Round<'_> {
         }
         for value in values(self.fresh.at(flow.from as usize)) {
             let made = self.chart.rows[flow.step as usize][value as usize];
+            // The bit is read off the number, as the definitions of a graph read it.
             if made != 0 && wave.nodes[flow.to as usize].label >> made & 1 == 0 {
                 // One word of the memory that is lent has the flow and the value.
                 let arrival = (64 * number + value as usize) as u32;

@@ -46,6 +46,7 @@ fn run(nodes: &mut [NodeRecord], workspace: &mut [u32], chart: Chart, fresh: &mu
         next: &mut next,
     };
     let mut distance = 0;
+    // The rounds end with the values, so the distance is counted beside.
     while !fresh.is_empty() {
         let round = Round {
             chart,

@@ -10,7 +10,7 @@ use lattice::Sizes;
 use lattice::bitset::insert;
 
 impl Label {
-    // Adds a value of an attribute.
+    // Adds a value of an attribute. By number, as in `size_of`: a `Value` keeps the number that its word says.
     #[tactic(auto, using(crate::proofs::Values::inserted_by_or))]
     fn insert(&mut self, value: Value)
         requires { value.code < 64 }

@@ -8,7 +8,7 @@ use crate::vocabulary::Vocabulary;
 use lattice::Sizes;
 
 /// A set of values for each attribute, a bit for each value.
-// The four fields of `Sizes` again, with sets: each lattice has a type of its own, so no function could go over the four.
+// The four names of `Sizes` again: one struct over the type of its fields would save these lines and hide what they hold.
 #[derive(Clone, Copy, PartialEq, Eq, Debug, Default)]
 pub struct Label {
     pub store: u64,

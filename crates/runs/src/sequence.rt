@@ -107,7 +107,7 @@ impl<V: Vocabulary> Handed<'_, V> {
 /// names a scheme or a policy that was not handed over, which is no call then.
 ///
 /// Each call is answered as the ledger before it says, so every judgement is right.
-// The memory lent is three parameters and no struct: a clause says what a `&mut` parameter points to, before and after.
+// The memory lent is three parameters and no struct, as for `Inventory::new`: each caller has the pieces apart.
 pub fn run<V: Vocabulary>(
     heap: Global,
     sizes: Sizes,

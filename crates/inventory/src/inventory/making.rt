@@ -21,7 +21,7 @@ impl<'a> Inventory<'a> {
     /// An inventory with no nodes and no flows, over the memory lent. Its one step leaves every value as it is.
     /// There is room for as many nodes as there are records and 128 words of workspace for each, and for 4096 at most,
     /// and for as many flows as there are records, and for 16384 at most.
-    // The pieces are three parameters and no `Lent`: a clause says what a `&mut` parameter points to, before and after.
+    // The pieces are three parameters and no `Lent`: each caller has them apart, and would wrap them up only to be unwrapped here.
     pub fn new(
         sizes: Sizes,
         nodes: &'a mut [NodeRecord],

@@ -21,7 +21,7 @@ impl<'a> Inventory<'a> {
         Inventory::new(sizes, &mut [], &mut [], &mut [])
     }
 
-    /// The inventory settled. It is taken apart, since its pieces of memory are lent together.
+    /// The inventory settled. It is taken apart: a slice behind `&mut self` of a struct with an invariant cannot be handed on.
     fn resettled(self) -> Self
         ensures ledger { ledger result ≡ after (ledger self.entry) settling }
         ensures labels { (n : ℕ) → n < result.node_count → LabelOf (ledger result) n (record_at (view result) n).label }
