@@ -12,13 +12,6 @@ use Rattle.inventory.specs.View.{View}
 use Rattle.runs.proofs.Sequences.{done_next, done_matched, done_answered, all_bring}
 use Rattle.runs.proofs.sequence.run.Goals as goal
 
-pub loop-call-init : goal.loop-call-init
-loop-call-init g c =
-    let v = view c.new-inventory.result in (
-      subst (λ (l : List (Option Answer)). DoneBy g.V.Vocabulary.orders c.args.schemes.now c.args.policies.now v [] l v) (sym c.new-answers.ensures.items) refl,
-      (refl, refl, refl),
-    )
-
 pub loop-call-preserved : goal.loop-call-preserved
 loop-call-preserved g c =
     let one = c.in_ok-answer.ensures in (
