@@ -46,6 +46,8 @@ fn path(node: usize, value: u8, room: usize) -> Call {
     Call::Path { node, value, room }
 }
 
+// A step that leaves seven values as they are, by the first so many entries of a row. `week` and the tests fill rows of their
+// own likewise: a constructor in `runs` would be a public function with a contract, for three lines each.
 fn copy(len: usize) -> Call {
     let mut row = [0; 64];
     row[0..7].copy_from_slice(&[0, 1, 2, 3, 4, 5, 6]);

@@ -46,7 +46,7 @@ fn value_word(number: u32) -> u32
     VALUE + number / 63 * 0x0100_0000 + number % 63 + 1
 }
 
-// Clauses inside one another.
+// Clauses inside one another. The tests nest theirs likewise: no library below both writes words.
 fn nested(heap: Global, depth: usize) -> Result<Vec<u32>, AllocError> {
     let mut words = Vec::new(heap);
     for level in 0..depth {

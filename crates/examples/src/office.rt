@@ -5,7 +5,7 @@ use runs::Call;
 
 pub type Office = Scheme<Ladder, Table, Ladder, Pair<Table, Ladder>>;
 
-// Nothing, two that are unrelated, and anything. The program week has the same rows: it is no library, and lends nothing.
+// Nothing, two that are unrelated, and anything. The program week has the same rows and words: it is no library, and lends nothing.
 const DIAMOND: [u64; 4] = [0b1111, 0b1010, 0b1100, 0b1000];
 
 pub fn office() -> Result<Office, Refusal> {
