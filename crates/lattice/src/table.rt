@@ -93,7 +93,11 @@ impl Lattice for Table {
         }))
     }
 
+    // What is no value has no row to be searched for.
     fn join(&self, a: u8, b: u8) -> Option<u8> {
+        if a >= self.size() || b >= self.size() {
+            return None;
+        }
         self.rows().join(a, b)
     }
 }
