@@ -1,5 +1,5 @@
 -- What the laws of a lattice give: meets and joins are bounds, and `overlap` is the least upper bound of the meets. Assumes nothing.
-use Rattle.std.proofs.Common.{◌≡◌, ℕ, suc, ◌<◌, Bool, true, false, not, ◌&&◌, ◌||◌, T, ◌⊎◌, Some, None, Option, sym, refl, ap, subst, inl, inr, arith}
+use Rattle.std.proofs.Common.{◌≡◌, ℕ, suc, ◌<◌, Bool, true, false, not, ◌&&◌, ◌||◌, T, ◌⊎◌, Some, None, Option, unwrap_or, sym, refl, ap, subst, inl, inr, arith}
 use Rattle.std.proofs.lemmas.Bool.{cases_lt, cases_eq, and_parts, both_ways}
 use Rattle.lattice.specs.Sets.{has, every}
 use Rattle.lattice.specs.Order.{Order, Lattice, is_meet, is_join, meet, join, top}
@@ -29,6 +29,11 @@ pub record LeastUpper (o : Order) (a b j : ℕ) : Type 0 where
   pub left : Below o a j
   pub right : Below o b j
   pub least : (x : ℕ) → Below o a x → Below o b x → Below o j x
+
+-- what `unwrap_or(0)` makes of what a lattice answers
+pub value_or_0 : (x : Option ℕ) → unwrap_or x 0 ≡ value_or_bottom x
+value_or_0 (Some v) = refl
+value_or_0 None = refl
 
 -- the meet and the join as values: the bottom where there is none
 abbrev pub meet_of : Order → ℕ → ℕ → ℕ
