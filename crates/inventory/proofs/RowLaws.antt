@@ -13,10 +13,16 @@ get_or_zeros zero i = refl
 get_or_zeros (suc m) zero = refl
 get_or_zeros (suc m) (suc i) = get_or_zeros m i
 
+pub length_counting : (n : ℕ) → length (counting n) ≡ n
+length_counting n = length-range_with_len 0 n
+
+pub get_or_counting : (n k : ℕ) → k < n → get_or (counting n) k 0 ≡ k
+get_or_counting n k l = get_or-range_with_len 0 n k 0 l ∙ zero-add k
+
 -- the identity is a good row
 pub counting_good : (n : ℕ) → 0 < n → good_row n (counting n) ≡ true
 counting_good n pos =
-    and_from _ _ (and_from _ _ (eq-eqb (length (counting n)) n (length-range_with_len 0 n)) (eq-eqb (get_or (counting n) 0 0) 0 (get_or-range_with_len 0 n 0 0 pos)))
+    and_from _ _ (and_from _ _ (eq-eqb (length (counting n)) n (length_counting n)) (eq-eqb (get_or (counting n) 0 0) 0 (get_or_counting n 0 pos)))
     (list_all-from_AllPass (λ v. ltb v n) (counting n)
     (λ k d l. let low : k < n = omega (arith, length-range_with_len 0 n) in
     lt-ltb (get_or (counting n) k d) n (omega (arith, get_or-range_with_len 0 n k d low))))
@@ -27,8 +33,8 @@ pub identity_row : (values : List ℕ) (n : ℕ) → length values ≡ 64 → ((
 identity_row values n long each low =
     let front : take n values ≡ counting n =
     ap (take n) (fill_by_all (λ k. k) values 64 0 long each) ∙ take-map-range_with_len (λ k. k) 0 64 n low
-    ∙ sym (fill_by_all (λ k. k) (counting n) n 0 (length-range_with_len 0 n) (λ k l. get_or-range_with_len 0 n k 0 l ∙ zero-add k)) in
-    ap (λ l. l ++ replicate (64 - length l) 0) front ∙ ap (λ k. counting n ++ replicate (64 - k) 0) (length-range_with_len 0 n)
+    ∙ sym (fill_by_all (λ k. k) (counting n) n 0 (length_counting n) (get_or_counting n)) in
+    ap (λ l. l ++ replicate (64 - length l) 0) front ∙ ap (λ k. counting n ++ replicate (64 - k) 0) (length_counting n)
 
 module _ (n : ℕ) (row : List ℕ) where
   -- an entry that is no value
