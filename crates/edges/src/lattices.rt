@@ -1,7 +1,7 @@
 //! Tables, ladders and pairs at their limits.
 use crate::outcome::Outcome;
+use arrayvec::ArrayVec;
 use lattice::{Ladder, Lattice, Refusal, Scheme, Table};
-use std::array;
 
 /// A scheme of four ladders.
 pub type Ladders = Scheme<Ladder, Ladder, Ladder, Ladder>;
@@ -56,9 +56,11 @@ fn show_pair(rt: &impl Print, first: usize, second: usize) -> anyhow::Result<()>
 
 pub fn show(rt: &impl Print) -> anyhow::Result<()> {
     // The ladder of 64 levels, and a row more than there can be.
-    let rows: [u64; 65] = array::from_fn(|level| if level < 64 { u64::MAX << level } else { 1 });
-    show_rows(rt, "64 rows", &rows[..64])?;
-    show_rows(rt, "65 rows", &rows)?;
+    let mut rows = ArrayVec::<u64, 65>::new();
+    rows.extend((0..64).map(|level| u64::MAX << level))?;
+    show_rows(rt, "64 rows", rows.as_slice())?;
+    rows.extend([1])?;
+    show_rows(rt, "65 rows", rows.as_slice())?;
     show_rows(rt, "1 row", &[0b1])?;
     show_rows(rt, "a bit past the count", &[0b11, 0b110])?;
     show_rows(rt, "no bit of its own", &[0b11, 0b00])?;
