@@ -50,33 +50,31 @@ fn value_word(number: u32) -> u32
     VALUE + number / 63 * 0x0100_0000 + number % 63 + 1
 }
 
-// Clauses inside one another. The tests nest theirs likewise: no library below both writes words.
-fn nested(depth: usize) -> Result<Words, AllocError> {
-    let mut words = Words::new();
+// Writes clauses inside one another. The tests nest theirs likewise: no library below both writes words.
+fn nest(words: &mut Words, depth: usize) -> Result<(), AllocError> {
+    words.clear();
     for level in 0..depth {
         if level > 0 {
             words.extend([EXCEPT])?;
         }
         words.extend([if level % 2 == 0 { ALLOW } else { DENY }])?;
     }
-    words.extend(iter::repeat_n(END, depth))?;
-    Ok(words)
+    words.extend(iter::repeat_n(END, depth))
 }
 
-// One clause with so many exceptions that have nothing in them.
-fn spread_out(exceptions: usize) -> Result<Words, AllocError> {
-    let mut words = Words::new();
+// Writes one clause with so many exceptions that have nothing in them.
+fn spread_out(words: &mut Words, exceptions: usize) -> Result<(), AllocError> {
+    words.clear();
     words.extend([ALLOW, EXCEPT])?;
     for _ in 0..exceptions {
         words.extend([DENY, END])?;
     }
-    words.extend([END])?;
-    Ok(words)
+    words.extend([END])
 }
 
-// One clause of 4,096 words: 29 values, and 16 exceptions with every value that there can be.
-fn longest() -> Result<Words, AllocError> {
-    let mut words = Words::new();
+// Writes one clause of 4,096 words: 29 values, and 16 exceptions with every value that there can be.
+fn fill(words: &mut Words) -> Result<(), AllocError> {
+    words.clear();
     words.extend([ALLOW])?;
     words.extend((0..29).map(value_word))?;
     words.extend([EXCEPT])?;
@@ -85,18 +83,20 @@ fn longest() -> Result<Words, AllocError> {
         words.extend((0..252).map(value_word))?;
         words.extend([END])?;
     }
-    words.extend([END])?;
-    Ok(words)
+    words.extend([END])
 }
 
 fn show_limits(rt: &impl Print, scheme: &Ladders) -> anyhow::Result<()> {
+    let mut words = Words::new();
     for (what, depth) in [("depth 16", 16), ("depth 17", 17)] {
-        show_words(rt, what, nested(depth)?.as_slice(), scheme)?;
+        nest(&mut words, depth)?;
+        show_words(rt, what, words.as_slice(), scheme)?;
     }
     for (what, exceptions) in [("256 clauses", 255), ("257 clauses", 256)] {
-        show_words(rt, what, spread_out(exceptions)?.as_slice(), scheme)?;
+        spread_out(&mut words, exceptions)?;
+        show_words(rt, what, words.as_slice(), scheme)?;
     }
-    let mut words = longest()?;
+    fill(&mut words)?;
     show_words(rt, "4,096 words", words.as_slice(), scheme)?;
     words.extend([END])?;
     show_words(rt, "4,097 words", words.as_slice(), scheme)?;

@@ -25,15 +25,6 @@ struct Week {
 }
 
 impl Week {
-    // Until Friday there are 22 calls.
-    fn new(heap: Global, scheme: Office) -> Result<Week, AllocError> {
-        Ok(Week {
-            scheme,
-            policy: Policy::new(),
-            calls: Vec::with_capacity(heap, 22)?,
-        })
-    }
-
     // Asks for these too, and gives how many calls there were before.
     fn ask(&mut self, requests: &[Request]) -> Result<usize, AllocError> {
         let before = self.calls.len();
@@ -104,7 +95,13 @@ fn main(rt: HostRuntime) -> anyhow::Result<()> {
         }
     };
     office::show_scheme(&rt, &scheme)?;
-    let mut week = Week::new(rt.alloc(), scheme)?;
+    // Until Friday there are 22 calls.
+    let calls = Vec::with_capacity(rt.alloc(), 22)?;
+    let mut week = Week {
+        scheme,
+        policy: Policy::new(),
+        calls,
+    };
     live_beginning(&rt, &mut week)?;
     office::read_policy(&rt, &mut week.policy, &week.scheme)?;
     let evidence = live_thursday(&rt, &mut week)?;
