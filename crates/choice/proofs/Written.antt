@@ -27,6 +27,19 @@ passing_fold p (suc n) h =
     ∙ ap (λ s. cond (p n) (inserted s n) s) (passing_fold p n (omega arith))
     ∙ ap (λ s. cond (p n) s (passing p n)) (sym (cond_below n 64 (with (passing p n) n) (passing p n) (omega arith)))
 
+pub passing_start : (p : ℕ → Bool) → 0 ≡ passing p 0
+unfolding passing
+passing_start p = refl
+
+-- the next number passes or does not
+pub passing_taken : (p : ℕ → Bool) (n s : ℕ) → s ≡ passing p n → p n ≡ true → n < 64 → inserted s n ≡ passing p (n + 1)
+unfolding passing
+passing_taken p n s e t h = sym (cond_below n 64 (with s n) s h) ∙ ap (λ (x : ℕ). with x n) e ∙ rw (add-one, t)
+
+pub passing_passed : (p : ℕ → Bool) (n s : ℕ) → s ≡ passing p n → p n ≡ false → s ≡ passing p (n + 1)
+unfolding passing
+passing_passed p n s e f = e ∙ rw (add-one, f)
+
 with_small : (s n : ℕ) → s < 2 ^ n → with s n < 2 ^ suc n
 unfolding with
 with_small s n h = go (has s n)

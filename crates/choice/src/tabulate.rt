@@ -56,10 +56,10 @@ pub fn write_rows<L: Lattice>(lattice: &L, rows: &mut [u64]) -> Result<(), TooFe
     ensures written { rows.new ≡ with_rows (L.order lattice.now) rows.old }
     ensures same { OnOk result (table (take (L.order lattice.now).size rows.new) ≡ L.order lattice.now) }
 {
-    let own = rows_of(lattice);
-    if rows.len() < own.len() {
+    if rows.len() < usize::from(lattice.size()) {
         return Err(TooFewEntries);
     }
+    let own = rows_of(lattice);
     rows[..own.len()].copy_from_slice(own.as_slice());
     Ok(())
 }

@@ -1,5 +1,6 @@
 //! Tables, ladders and pairs at their limits.
 use crate::outcome::Outcome;
+use arrayvec::ArrayVec;
 use lattice::{Ladder, Lattice, Refusal, Scheme, Table};
 
 /// A scheme of four ladders.
@@ -53,11 +54,12 @@ fn show_pair(rt: &impl Print, first: usize, second: usize) -> anyhow::Result<()>
     Ok(())
 }
 
-pub fn show(rt: &HostRuntime) -> anyhow::Result<()> {
+pub fn show(rt: &impl Print) -> anyhow::Result<()> {
     // The ladder of 64 levels, and a row more than there can be.
-    let mut rows: Vec<u64> = (0..64).map(|level| u64::MAX << level).collect(rt.alloc())?;
+    let mut rows = ArrayVec::<u64, 65>::new();
+    rows.extend((0..64).map(|level| u64::MAX << level))?;
     show_rows(rt, "64 rows", rows.as_slice())?;
-    rows.push(1)?;
+    rows.extend([1])?;
     show_rows(rt, "65 rows", rows.as_slice())?;
     show_rows(rt, "1 row", &[0b1])?;
     show_rows(rt, "a bit past the count", &[0b11, 0b110])?;

@@ -3,9 +3,13 @@ ghost use Rattle.std.specs.Prelude.{◌<◌};
 
 use crate::lattices::{Ladders, ladders};
 use crate::outcome::Outcome;
+use arrayvec::ArrayVec;
 use policy::{Policy, Vocabulary};
-use std::alloc::{AllocError, Global};
+use std::alloc::AllocError;
 use std::iter;
+
+// As many words as a policy can have, and one more. They need no heap.
+type Words = ArrayVec<u32, 4097>;
 
 const ALLOW: u32 = 0x1000_0000;
 
@@ -46,56 +50,55 @@ fn value_word(number: u32) -> u32
     VALUE + number / 63 * 0x0100_0000 + number % 63 + 1
 }
 
-// Clauses inside one another. The tests nest theirs likewise: no library below both writes words.
-fn nested(heap: Global, depth: usize) -> Result<Vec<u32>, AllocError> {
-    let mut words = Vec::new(heap);
+// Writes clauses inside one another. The tests nest theirs likewise: no library below both writes words.
+fn nest(words: &mut Words, depth: usize) -> Result<(), AllocError> {
+    words.clear();
     for level in 0..depth {
         if level > 0 {
-            words.push(EXCEPT)?;
+            words.extend([EXCEPT])?;
         }
-        words.push(if level % 2 == 0 { ALLOW } else { DENY })?;
+        words.extend([if level % 2 == 0 { ALLOW } else { DENY }])?;
     }
-    words.extend(iter::repeat_n(END, depth))?;
-    Ok(words)
+    words.extend(iter::repeat_n(END, depth))
 }
 
-// One clause with so many exceptions that have nothing in them.
-fn spread_out(heap: Global, exceptions: usize) -> Result<Vec<u32>, AllocError> {
-    let mut words = vec![in heap; ALLOW, EXCEPT]?;
+// Writes one clause with so many exceptions that have nothing in them.
+fn spread_out(words: &mut Words, exceptions: usize) -> Result<(), AllocError> {
+    words.clear();
+    words.extend([ALLOW, EXCEPT])?;
     for _ in 0..exceptions {
-        words.extend_from_slice(&[DENY, END])?;
+        words.extend([DENY, END])?;
     }
-    words.push(END)?;
-    Ok(words)
+    words.extend([END])
 }
 
-// One clause of 4,096 words: 29 values, and 16 exceptions with every value that there can be.
-fn longest(heap: Global) -> Result<Vec<u32>, AllocError> {
-    let mut words = vec![in heap; ALLOW]?;
+// Writes one clause of 4,096 words: 29 values, and 16 exceptions with every value that there can be.
+fn fill(words: &mut Words) -> Result<(), AllocError> {
+    words.clear();
+    words.extend([ALLOW])?;
     words.extend((0..29).map(value_word))?;
-    words.push(EXCEPT)?;
+    words.extend([EXCEPT])?;
     for _ in 0..16 {
-        words.push(DENY)?;
+        words.extend([DENY])?;
         words.extend((0..252).map(value_word))?;
-        words.push(END)?;
+        words.extend([END])?;
     }
-    words.push(END)?;
-    Ok(words)
+    words.extend([END])
 }
 
-fn show_limits(rt: &HostRuntime, scheme: &Ladders) -> anyhow::Result<()> {
-    for depth in [16, 17] {
-        let words = nested(rt.alloc(), depth)?;
-        let what = format!(in rt.alloc(); "depth {depth}")?;
-        show_words(rt, what.as_str(), words.as_slice(), scheme)?;
+fn show_limits(rt: &impl Print, scheme: &Ladders) -> anyhow::Result<()> {
+    let mut words = Words::new();
+    for (what, depth) in [("depth 16", 16), ("depth 17", 17)] {
+        nest(&mut words, depth)?;
+        show_words(rt, what, words.as_slice(), scheme)?;
     }
-    let wide = spread_out(rt.alloc(), 255)?;
-    show_words(rt, "256 clauses", wide.as_slice(), scheme)?;
-    let wider = spread_out(rt.alloc(), 256)?;
-    show_words(rt, "257 clauses", wider.as_slice(), scheme)?;
-    let mut words = longest(rt.alloc())?;
+    for (what, exceptions) in [("256 clauses", 255), ("257 clauses", 256)] {
+        spread_out(&mut words, exceptions)?;
+        show_words(rt, what, words.as_slice(), scheme)?;
+    }
+    fill(&mut words)?;
     show_words(rt, "4,096 words", words.as_slice(), scheme)?;
-    words.push(END)?;
+    words.extend([END])?;
     show_words(rt, "4,097 words", words.as_slice(), scheme)?;
     show_words(rt, "no words", &[], scheme)
 }
@@ -123,7 +126,7 @@ fn show_faults(rt: &impl Print, scheme: &Ladders) -> anyhow::Result<()> {
     )
 }
 
-pub fn show(rt: &HostRuntime) -> anyhow::Result<()> {
+pub fn show(rt: &impl Print) -> anyhow::Result<()> {
     show_limits(rt, &ladders(64, 64, 64, 64)?)?;
     show_faults(rt, &ladders(2, 4, 2, 7)?)
 }

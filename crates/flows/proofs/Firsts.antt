@@ -6,8 +6,9 @@ use Rattle.flows.specs.declared.records.NodeRecord.{NodeRecord}
 use Rattle.flows.specs.declared.records.FlowRecord.{FlowRecord}
 use Rattle.flows.specs.Graph.{graph, whole, holds, no_node, no_flow, relabeled}
 use Rattle.flows.specs.Certificate.{distance, arrival, Certified}
-use Rattle.flows.specs.Fitting.{Fitting}
+use Rattle.flows.specs.Fitting.{Fitting, SmallMarks}
 use Rattle.flows.specs.Settled.{Relabeled, Settled}
+use Rattle.flows.proofs.Trails.{shortest_paths}
 
 module _ (ns : List NodeRecord) (fl : List FlowRecord) (rows : List (List ℕ)) (N F : ℕ) (W : List ℕ) (node_room : N ≤ length ns) (flow_room : F ≤ length fl) where
   node_count : length (take N ns) ≡ N
@@ -109,3 +110,35 @@ module _ (ns : List NodeRecord) (fl : List FlowRecord) (rows : List (List ℕ)) 
               (subst (λ (r : NodeRecord). r.verified ≡ false) (first _ (joined f lf).1) open_end) in
               (subst (λ (r : NodeRecord). holds r.label (get_or (get_or rows (get_or (take F fl) f no_flow).step []) w 0)) (sym (first _ (joined f lf).1)) near.0, near.1)),
         )
+
+    after_fits : Fitting (graph after fl rows N F) W'
+    after_fits = record {
+      few_nodes = omega (arith, node_count, done.fits.few_nodes);
+      few_flows = omega (arith, flow_count, done.fits.few_flows);
+      nodes_room = omega (arith, after_long);
+      flows_room = flow_room;
+      words_room = omega (arith, node_count, done.fits.words_room);
+      joined = λ f l. subst (λ (x : FlowRecord). (x.«from» < N) × (x.to < N)) (flow_same f l) (joined f l);
+      stepped = λ f l. subst (λ (x : FlowRecord). x.step < length rows) (flow_same f l) (done.fits.stepped f (omega (arith, flow_count)));
+      bounded = done.fits.bounded;
+    }
+
+    after_small_marks : SmallMarks (graph after fl rows N F)
+    after_small_marks n l = subst (λ (r : NodeRecord). r.marks < 2 ^ 64) (sym (first n l)) (done.small_marks n (omega (arith, node_count)))
+
+    -- the same over the whole lists
+    pub after_settled : Settled fl rows N F ns after W W'
+    after_settled =
+        let paths = shortest_paths (graph after fl rows N F) W' after_fits.joined after_fits.bounded after_small_marks after_certified in
+        record {
+          same = after_same;
+          nodes_long = after_long;
+          past = after_past;
+          words_long = done.words_long;
+          small = after_small;
+          small_marks = after_small_marks;
+          fits = after_fits;
+          certified = after_certified;
+          reached = paths.0;
+          complete = paths.1;
+        }

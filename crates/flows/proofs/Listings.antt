@@ -1,10 +1,11 @@
 -- The sets of the nodes, and the list of the nodes that have any values.
-use Rattle.std.proofs.Common.{◌≡◌, ℕ, zero, suc, ◌+◌, ◌-◌, ◌<◌, ◌≤◌, ◌≢◌, List, [], ◌∷◌, ◌++◌, length, get_or, take, drop, set, sum, sum_by, replicate, sym, refl, ap, ◌∙◌, arith}
+use Rattle.std.proofs.Common.{◌≡◌, ℕ, zero, suc, ◌+◌, ◌-◌, ◌<◌, ◌≤◌, ◌≢◌, ◌⊎◌, List, [], ◌∷◌, ◌++◌, length, get_or, take, drop, set, sum, sum_by, replicate, bit_or, inl, inr, ⊎_elim, sym, refl, ap, ◌∙◌, arith}
+use Rattle.std.specs.Int.Bits.{or_zero_l, or_self}
 use native.Mathlib.Decide.{ℕ_discrete}
 use Rattle.std.proofs.lemmas.List.{get_or-set_same, get_or-set_other, get_or_append_left, get_or-append_right, get_or-drop, length-append, length-drop, length-set, length-replicate}
 use Rattle.std.proofs.Math.Seq.{get_or-append_seam}
 use Rattle.std.proofs.lemmas.List.Sums.{sum_by-cons, sum_by-set}
-use Rattle.flows.specs.Fronts.{some, Empty, Listed}
+use Rattle.flows.specs.Fronts.{some, Empty, Lists, Listed}
 use Rattle.flows.specs.Rounds.{Cleared}
 
 -- a list with zeros alone
@@ -145,3 +146,53 @@ clearing_end before sets nodes i l all c = record { long = c.long; none = λ n. 
         let at = l.lists.there n ne in
         let below = at.1 in
         sym (ap (λ k. get_or sets k 0) at.2) ∙ c.done at.0 (omega (arith, below))
+
+-- the sets of the nodes that are listed before place i are the other's, and the further ones are so too or empty
+pub record Taking (other sets nodes : List ℕ) (i : ℕ) : Type 0 where
+  pub long : length sets ≡ 4096
+  pub done : (j : ℕ) → j < i → get_or sets (get_or nodes j 0) 0 ≡ get_or other (get_or nodes j 0) 0
+  pub rest : (n : ℕ) → (get_or sets n 0 ≡ 0) ⊎ (get_or sets n 0 ≡ get_or other n 0)
+
+pub taking_start : (other sets nodes : List ℕ) → Empty sets → Taking other sets nodes 0
+taking_start other sets nodes e = record { long = e.long; done = λ j l. absurd (omega arith); rest = λ n. inl (e.none n) }
+
+module _ (other sets nodes : List ℕ) (i : ℕ) (l : Lists other nodes) (t : Taking other sets nodes i) (n : ℕ) (room : n < 4096) (is : n ≡ get_or nodes i 0) where
+  -- what is added to the empty set or to itself
+  joined : bit_or (get_or sets n 0) (get_or other n 0) ≡ get_or other n 0
+  joined = ⊎_elim (λ z. ap (λ k. bit_or k (get_or other n 0)) z ∙ or_zero_l _) (λ e. ap (λ k. bit_or k (get_or other n 0)) e ∙ or_self _) (t.rest n)
+
+  taken_here : get_or (set sets n (bit_or (get_or sets n 0) (get_or other n 0))) n 0 ≡ get_or other n 0
+  taken_here = get_or-set_same sets n _ 0 (omega (arith, t.long)) ∙ joined
+
+  kept_there : (m : ℕ) → m ≢ n → get_or (set sets n (bit_or (get_or sets n 0) (get_or other n 0))) m 0 ≡ get_or sets m 0
+  kept_there m ne = get_or-set_other sets n m _ 0 ne
+
+  pub taking_more : Taking other (set sets n (bit_or (get_or sets n 0) (get_or other n 0))) nodes (i + 1)
+  taking_more = record {
+    long = length-set sets n _ ∙ t.long;
+    done = λ j lj. so_far j lj (ℕ_discrete (get_or nodes j 0) n);
+    rest = λ m. further m (ℕ_discrete m n);
+  }
+    where
+      so_far : (j : ℕ) → j < i + 1 → Dec (get_or nodes j 0 ≡ n) → get_or (set sets n (bit_or (get_or sets n 0) (get_or other n 0))) (get_or nodes j 0) 0 ≡ get_or other (get_or nodes j 0) 0
+      so_far j lj (yes e) = ap (λ k. get_or (set sets n (bit_or (get_or sets n 0) (get_or other n 0))) k 0) e ∙ taken_here ∙ sym (ap (λ k. get_or other k 0) e)
+      so_far j lj (no ne) = kept_there _ ne ∙ earlier j lj ne (ℕ_discrete j i)
+        where
+          earlier : (j : ℕ) → j < i + 1 → get_or nodes j 0 ≢ n → Dec (j ≡ i) → get_or sets (get_or nodes j 0) 0 ≡ get_or other (get_or nodes j 0) 0
+          earlier j lj ne (yes e) = absurd (ne (ap (λ k. get_or nodes k 0) e ∙ sym is))
+          earlier j lj ne (no o) = t.done j (omega arith)
+
+      further : (m : ℕ) → Dec (m ≡ n) → (get_or (set sets n (bit_or (get_or sets n 0) (get_or other n 0))) m 0 ≡ 0) ⊎ (get_or (set sets n (bit_or (get_or sets n 0) (get_or other n 0))) m 0 ≡ get_or other m 0)
+      further m (yes e) = inr (ap (λ k. get_or (set sets n (bit_or (get_or sets n 0) (get_or other n 0))) k 0) e ∙ taken_here ∙ sym (ap (λ k. get_or other k 0) e))
+      further m (no ne) = ⊎_elim (λ z. inl (kept_there m ne ∙ z)) (λ e. inr (kept_there m ne ∙ e)) (t.rest m)
+
+pub taking_end : (other sets nodes : List ℕ) (i : ℕ) → Lists other nodes → length nodes ≤ i → Taking other sets nodes i
+    → (n : ℕ) → get_or sets n 0 ≡ get_or other n 0
+taking_end other sets nodes i l all t n = go (ℕ_discrete (get_or other n 0) 0)
+  where
+    go : Dec (get_or other n 0 ≡ 0) → get_or sets n 0 ≡ get_or other n 0
+    go (yes z) = ⊎_elim (λ e. e ∙ sym z) (λ e. e) (t.rest n)
+    go (no ne) =
+        let at = l.there n ne in
+        let below = at.1 in
+        sym (ap (λ k. get_or sets k 0) at.2) ∙ t.done at.0 (omega (arith, below)) ∙ ap (λ k. get_or other k 0) at.2

@@ -4,7 +4,6 @@ ghost use Rattle.flows.specs.Fronts.{Empty, Lists};
 
 use arrayvec::ArrayVec;
 use std::marker::Model;
-use std::mem;
 
 /// A set of values for each of 4,096 nodes, and the nodes whose sets are not empty, each once.
 ///
@@ -86,8 +85,11 @@ impl Front {
         ensures long { length self.new ≡ 4096 }
         ensures emptied { Empty other.new }
     {
-        mem::swap(&mut self.sets, &mut other.sets);
-        mem::swap(&mut self.nodes, &mut other.nodes);
+        self.clear();
+        // Node by node: there may be as many rounds as values at all nodes, and a swap would move all 4,096 sets in each.
+        for node in other.nodes() {
+            self.add(*node, other.at(usize::from(*node)));
+        }
         other.clear();
     }
 }

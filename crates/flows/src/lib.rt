@@ -14,6 +14,6 @@ mod walking;
 
 pub use misfit::Misfit;
 pub use records::{FlowRecord, NodeRecord};
-pub use rounds::spread;
+pub use rounds::{spread, spread_all};
 pub use theorems::certificates_stand;
-pub use walking::walk;
+pub use walking::{walk, walk_all};

@@ -3,7 +3,7 @@ ghost use Rattle.std.specs.Prelude.{◌≡◌, ℕ, ◌*◌, ◌^◌, ◌<◌, �
 ghost use Rattle.flows.specs.Certificate.{Certified};
 ghost use Rattle.flows.specs.Charts.{Charted, graph_on};
 ghost use Rattle.flows.specs.Fitting.{Fitting};
-ghost use Rattle.flows.specs.Graph.{whole, no_node};
+ghost use Rattle.flows.specs.Graph.{graph, whole, no_node};
 ghost use Rattle.flows.specs.Rounds.{Begun, Cleared, Starts};
 ghost use Rattle.flows.specs.Settled.{Beyond, Relabeled, Settled};
 
@@ -81,8 +81,9 @@ fn settle(nodes: &mut [NodeRecord], workspace: &mut [u32], flows: &[FlowRecord],
 
 /// Fills the labels with every value that reaches a node, and the workspace with the distances and arrivals.
 ///
-/// The workspace has 128 words for each node. Where the arguments do not fit each other, nothing is written.
-pub fn spread(
+/// All nodes and flows of the lists count. The workspace has 128 words for each node. Where the arguments do not fit each other,
+/// nothing is written.
+pub fn spread_all(
     nodes: &mut [NodeRecord],
     workspace: &mut [u32],
     flows: &[FlowRecord],
@@ -97,4 +98,27 @@ pub fn spread(
     }
     settle(nodes, workspace, flows, rows);
     Ok(())
+}
+
+/// The same for the first `node_count` nodes and the first `flow_count` flows: those past them are left as they are.
+///
+/// Counts past the lists do not fit, as little as the rest that [`spread_all`] refuses.
+pub fn spread(
+    nodes: &mut [NodeRecord],
+    workspace: &mut [u32],
+    flows: &[FlowRecord],
+    rows: &[[u8; 64]],
+    node_count: usize,
+    flow_count: usize,
+) -> Result<(), Misfit>
+    ensures fits { IsOk result ↔ Fitting (graph nodes.old flows.now rows.now node_count flow_count) workspace.old }
+    ensures refused { OnErr result ((nodes.new ≡ nodes.old) × (workspace.new ≡ workspace.old)) }
+    ensures settled { OnOk result (Settled flows.now rows.now node_count flow_count nodes.old nodes.new workspace.old workspace.new) }
+{
+    if node_count <= nodes.len() && flow_count <= flows.len() {
+        let counted = &mut nodes[..node_count];
+        spread_all(counted, workspace, &flows[..flow_count], rows)
+    } else {
+        Err(Misfit)
+    }
 }

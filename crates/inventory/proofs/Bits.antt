@@ -1,6 +1,7 @@
 -- Sets whose values go from 1 to a size less 1.
-use Rattle.std.proofs.Common.{◌≡◌, ℕ, ◌^◌, true, refl, pow_pos}
-use Rattle.std.proofs.lemmas.Bool.{lt-ltb, and_from}
+use Rattle.std.proofs.Common.{◌≡◌, ℕ, ◌/◌, ◌%◌, ◌^◌, true, false, eqb, ltb, refl, ⊎_elim, pow_pos}
+use native.Mathlib.Nat.{div-eq_of_lt}
+use Rattle.std.proofs.lemmas.Bool.{lt-ltb, and_from, cases_lt, le-ltb, and_left}
 use Rattle.ledger.specs.Ledger.{good_value}
 use Rattle.lattice.specs.Sets.{with, without}
 use Rattle.policy.specs.Words.{in_range}
@@ -22,3 +23,11 @@ module _ (n s x : ℕ) (range : in_range n s ≡ true) (good : good_value n x �
 -- the empty set is in every range
 pub in_empty : (n : ℕ) → in_range n 0 ≡ true
 in_empty n = and_from _ _ (lt-ltb 0 (2 ^ n) (pow_pos n)) refl
+
+-- a set with a value at or above n
+pub out_of_range : (n s : ℕ) → (s / 2 ^ n ≡ 0 → ⊥) → in_range n s ≡ false
+out_of_range n s high =
+    ⊎_elim
+    (λ l. absurd (high (div-eq_of_lt l)))
+    (λ g. and_left (ltb s (2 ^ n)) (eqb (s % 2) 0) (le-ltb s (2 ^ n) g))
+    (cases_lt s (2 ^ n))

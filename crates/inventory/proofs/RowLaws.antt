@@ -1,9 +1,10 @@
 -- Rows of steps.
-use Rattle.std.proofs.Common.{◌≡◌, ℕ, zero, suc, ◌-◌, ◌<◌, ◌≤◌, true, ◌&&◌, eqb, ltb, List, ◌++◌, length, get_or, replicate, sym, refl, ap, ◌∙◌, ⊎_elim, zero-add, arith, take}
-use Rattle.std.proofs.lemmas.List.{get_or_append_left, get_or-append_right}
-use Rattle.std.proofs.lemmas.Bool.{and_from, and_parts, cases_lt, eq-eqb, ltb-true, lt-ltb}
+use Rattle.std.proofs.Common.{◌≡◌, ℕ, zero, suc, ◌-◌, ◌<◌, ◌≤◌, true, false, ◌&&◌, eqb, ltb, List, ◌++◌, length, get_or, replicate, sym, refl, ap, ◌∙◌, ⊎_elim, zero-add, arith, take}
+use Rattle.std.proofs.lemmas.List.{get_or_append_left, get_or-append_right, get_or_default}
+use Rattle.std.proofs.lemmas.Bool.{and_from, and_parts, and_right, cases_lt, eq-eqb, ltb-true, lt-ltb, le-ltb}
 use Rattle.std.specs.List.{list_all}
 use Rattle.std.proofs.lemmas.List.Sums.{AllPass-from_list_all, list_all-from_AllPass}
+use Rattle.std.proofs.lemmas.List.Folds.{list_all_at}
 use Rattle.std.proofs.lemmas.List.FromFn.{length-range_with_len, get_or-range_with_len, take-map-range_with_len, fill_by_all}
 use Rattle.ledger.specs.Ledger.{good_row, counting}
 
@@ -12,10 +13,16 @@ get_or_zeros zero i = refl
 get_or_zeros (suc m) zero = refl
 get_or_zeros (suc m) (suc i) = get_or_zeros m i
 
+pub length_counting : (n : ℕ) → length (counting n) ≡ n
+length_counting n = length-range_with_len 0 n
+
+pub get_or_counting : (n k : ℕ) → k < n → get_or (counting n) k 0 ≡ k
+get_or_counting n k l = get_or-range_with_len 0 n k 0 l ∙ zero-add k
+
 -- the identity is a good row
 pub counting_good : (n : ℕ) → 0 < n → good_row n (counting n) ≡ true
 counting_good n pos =
-    and_from _ _ (and_from _ _ (eq-eqb (length (counting n)) n (length-range_with_len 0 n)) (eq-eqb (get_or (counting n) 0 0) 0 (get_or-range_with_len 0 n 0 0 pos)))
+    and_from _ _ (and_from _ _ (eq-eqb (length (counting n)) n (length_counting n)) (eq-eqb (get_or (counting n) 0 0) 0 (get_or_counting n 0 pos)))
     (list_all-from_AllPass (λ v. ltb v n) (counting n)
     (λ k d l. let low : k < n = omega (arith, length-range_with_len 0 n) in
     lt-ltb (get_or (counting n) k d) n (omega (arith, get_or-range_with_len 0 n k d low))))
@@ -26,8 +33,21 @@ pub identity_row : (values : List ℕ) (n : ℕ) → length values ≡ 64 → ((
 identity_row values n long each low =
     let front : take n values ≡ counting n =
     ap (take n) (fill_by_all (λ k. k) values 64 0 long each) ∙ take-map-range_with_len (λ k. k) 0 64 n low
-    ∙ sym (fill_by_all (λ k. k) (counting n) n 0 (length-range_with_len 0 n) (λ k l. get_or-range_with_len 0 n k 0 l ∙ zero-add k)) in
-    ap (λ l. l ++ replicate (64 - length l) 0) front ∙ ap (λ k. counting n ++ replicate (64 - k) 0) (length-range_with_len 0 n)
+    ∙ sym (fill_by_all (λ k. k) (counting n) n 0 (length_counting n) (get_or_counting n)) in
+    ap (λ l. l ++ replicate (64 - length l) 0) front ∙ ap (λ k. counting n ++ replicate (64 - k) 0) (length_counting n)
+
+module _ (n : ℕ) (row : List ℕ) where
+  -- an entry that is no value
+  pub row_bad : length row ≡ n → (k : ℕ) → k < length row → n ≤ get_or row k 0 → good_row n row ≡ false
+  row_bad long k l high =
+      and_right (eqb (length row) n && eqb (get_or row 0 0) 0) (list_all (λ v. ltb v n) row)
+      (list_all_at (λ v. ltb v n) row k 0 l (le-ltb (get_or row k 0) n high))
+
+  pub row_good : length row ≡ n → get_or row 0 0 ≡ 0 → ((k : ℕ) → k < length row → get_or row k 0 < n) → good_row n row ≡ true
+  row_good long zeroth each =
+      and_from (eqb (length row) n && eqb (get_or row 0 0) 0) (list_all (λ v. ltb v n) row)
+      (and_from (eqb (length row) n) (eqb (get_or row 0 0) 0) (eq-eqb (length row) n long) (eq-eqb (get_or row 0 0) 0 zeroth))
+      (list_all-from_AllPass (λ v. ltb v n) row (λ k d l. lt-ltb (get_or row k d) n (omega (arith, each k l, get_or_default row k 0 d l))))
 
 -- the entries of a row with zeros behind it
 module _ (n : ℕ) (row : List ℕ) (long : length row ≡ n) where

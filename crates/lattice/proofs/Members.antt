@@ -1,6 +1,6 @@
 -- A value put into a set, and taken out of it. Assumes nothing.
-use Rattle.std.proofs.Common.{◌≡◌, ℕ, zero, suc, ◌+◌, ◌-◌, ◌*◌, ◌/◌, ◌%◌, ◌^◌, ◌≤◌, Bool, true, false, cond, eqb, sym, refl, ap, ◌∙◌, subst, inl, inr, pow-suc, arith, shr-shr}
-use Rattle.std.proofs.lemmas.Bool.{eqb-true, eqb-false, eq-eqb, ne_eqb, cases_eq, both_ways}
+use Rattle.std.proofs.Common.{◌≡◌, ℕ, zero, suc, ◌+◌, ◌-◌, ◌*◌, ◌/◌, ◌%◌, ◌^◌, ◌≤◌, Bool, true, false, cond, not, ◌&&◌, ◌||◌, eqb, sym, refl, ap, ◌∙◌, subst, inl, inr, pow-suc, arith, shr-shr}
+use Rattle.std.proofs.lemmas.Bool.{eqb-true, eqb-false, eq-eqb, ne_eqb, cases_eq, or_left, both_ways}
 use Rattle.lattice.specs.Sets.{has, with, without}
 
 -- ---- tests over the numbers below a bound
@@ -94,6 +94,13 @@ has_with_other s v w other = go (has s v) refl
     go true e = refl
     go false e = has_like (s + 2 ^ v) s w (bit_kept v w s (no_bit_of s v e) other)
 
+pub has_with : (s v w : ℕ) → has (with s v) w ≡ (eqb v w || has s w)
+has_with s v w =
+    elim (cases_eq v w) [
+      | inl same ↦ subst (λ (x : ℕ). has (with s v) x ≡ true) same (has_with_same s v) ∙ sym (or_left (eqb v w) (has s w) (eq-eqb v w same))
+      | inr other ↦ has_with_other s v w other ∙ ap (λ (b : Bool). b || has s w) (sym (ne_eqb v w other))
+    ]
+
 pub has_without_same : (s v : ℕ) → has (without s v) v ≡ false
 unfolding without
 has_without_same s v = go (has s v) refl
@@ -109,6 +116,13 @@ has_without_other s v w other = go (has s v) refl
     go : (b : Bool) → has s v ≡ b → has (cond b (s - 2 ^ v) s) w ≡ has s w
     go true e = has_like (s - 2 ^ v) s w (bit_left v w s (bit_of s v e) other)
     go false e = refl
+
+pub has_without : (s v w : ℕ) → has (without s v) w ≡ (not (eqb v w) && has s w)
+has_without s v w =
+    elim (cases_eq v w) [
+      | inl same ↦ subst (λ (x : ℕ). has (without s v) x ≡ false) same (has_without_same s v) ∙ ap (λ (b : Bool). not b && has s w) (sym (eq-eqb v w same))
+      | inr other ↦ has_without_other s v w other ∙ ap (λ (b : Bool). not b && has s w) (sym (ne_eqb v w other))
+    ]
 
 -- what is left once v is left out was there before
 pub has_before_without : (s v w : ℕ) → has (without s v) w ≡ true → has s w ≡ true

@@ -1,9 +1,9 @@
 -- What `every`, `some_below`, `least` and `has` say. Assumes nothing.
-use Rattle.std.specs.Prelude.{◌≡◌, ℕ, zero, suc, ◌<◌, Bool, true, false, T, Some, None, Option, ◌≢◌, refl}
+use Rattle.std.specs.Prelude.{◌≡◌, ℕ, zero, suc, ◌+◌, ◌<◌, Bool, true, false, T, Some, None, Option, ◌≢◌, refl}
 use Rattle.std.proofs.Common.{inl, inr, sym, ap, subst, ◌∙◌, arith}
 use Rattle.std.proofs.lemmas.Bool.{cases_lt}
 use Rattle.lattice.specs.Sets.{every, some_below, least}
-use Rattle.lattice.specs.Tests.{T_and, and_T, T_or, or_T_left, or_T_right, from_true, from_false}
+use Rattle.lattice.specs.Tests.{T_and, and_T, T_or, or_T_left, or_T_right, is_true, from_true, is_false, from_false}
 
 -- a test that passes at n passes at an equal number
 pub at_equal : (p : ℕ → Bool) (m n : ℕ) → m ≡ n → T (p n) → T (p m)
@@ -102,3 +102,33 @@ least_exists p n k lt h = elim (first p n) [ absent _ none ↦ absurd (none k lt
 -- the only number that passes is the least
 pub least_only : (p : ℕ → Bool) (n m : ℕ) → m < n → T (p m) → ((k : ℕ) → T (p k) → k ≡ m) → least p n ≡ Some m
 least_only p n m lt h only = least_is p n m lt h (λ k l t. let e : k ≡ m = only k t in let z : ⊥ = omega arith in z)
+
+-- one turn of a loop that looks for the first number that passes, and its end
+pub least_next : (p : ℕ → Bool) (i : ℕ) → least p i ≡ None → p i ≡ false → least p (i + 1) ≡ None
+least_next p i e f =
+    least_is_none p (i + 1)
+    (λ k lt t. elim (cases_lt k i) [ inl l ↦ least_none p i e k l t | inr g ↦ from_false (p i) f (at_equal p i k (omega arith) t) ])
+
+pub least_here : (p : ℕ → Bool) (i n : ℕ) → i < n → least p i ≡ None → p i ≡ true → least p n ≡ Some i
+least_here p i n lt e t = least_is p n i lt (from_true (p i) t) (least_none p i e)
+
+-- the same for a loop that asks whether some number passes
+pub some_next : (p : ℕ → Bool) (i : ℕ) → some_below p i ≡ false → p i ≡ false → some_below p (i + 1) ≡ false
+some_next p i e f =
+    is_false (some_below p (i + 1))
+    (λ t. let w = some_found p (i + 1) t in
+    elim (cases_lt w.0 i) [
+      | inl l ↦ from_false (some_below p i) e (found_some p i w.0 l w.2)
+      | inr g ↦ from_false (p i) f (at_equal p i w.0 (let lt : w.0 < i + 1 = w.1 in omega arith) w.2)
+    ])
+
+pub some_here : (p : ℕ → Bool) (i n : ℕ) → i < n → p i ≡ true → some_below p n ≡ true
+some_here p i n lt t = is_true (some_below p n) (found_some p n i lt (from_true (p i) t))
+
+pub least_start : (p : ℕ → Bool) → least p 0 ≡ None
+unfolding least
+least_start p = refl
+
+pub some_start : (p : ℕ → Bool) → some_below p 0 ≡ false
+unfolding some_below
+some_start p = refl

@@ -1,22 +1,24 @@
 -- Tables: their order, how their meets and joins are found, and when rows are a lattice. Assumes nothing.
-use Rattle.std.specs.Prelude.{◌≡◌, ℕ, zero, suc, ◌+◌, ◌-◌, ◌*◌, ◌/◌, ◌%◌, ◌^◌, ◌<◌, ◌≤◌, Bool, true, false, not, ◌&&◌, T, List, [], ◌∷◌, length, Some, None, Option, ◌==◌, bit_and, nat_eq, nat_le, nat_lt, slice_index, refl}
-use Rattle.std.proofs.Common.{inl, inr, sym, ap, subst, ◌∙◌, arith, eqb→eq, leb→le, le→leb, ltb→lt, lt→ltb, lt_of_lt_of_le, pow_mono}
+use Rattle.std.specs.Prelude.{◌≡◌, ℕ, zero, suc, ◌+◌, ◌-◌, ◌*◌, ◌/◌, ◌%◌, ◌^◌, ◌<◌, ◌≤◌, Bool, true, false, not, ◌&&◌, T, List, [], ◌∷◌, ◌++◌, length, take, Some, None, Option, ◌==◌, bit_and, nat_eq, nat_le, nat_lt, slice_index, slice_set, refl}
+use Rattle.std.proofs.Common.{inl, inr, sym, ap, ap₂, subst, ◌∙◌, arith, eqb→eq, leb→le, le→leb, ltb→lt, lt→ltb, lt_of_lt_of_le, pow_mono, get_or-take, length-take-le, take-suc, take-suc-set, add-one}
 use Rattle.std.proofs.Math.Logic.{∥∥₁_elim}
 use Rattle.std.proofs.Math.Nat.{div-eq_of_lt}
 use Rattle.std.proofs.Math.Dec.{T_prop, not_T, T_not}
+use Rattle.std.proofs.Math.Seq.{take-length}
 use Rattle.std.proofs.lemmas.Nat.{shr-shr, pow-add, pow_below, pow_pos, div_below, le-div}
 use Rattle.std.proofs.lemmas.List.{get_or_past}
 use Rattle.std.proofs.lemmas.Bool.{cases_eq, cases_lt, eq-eqb, cond-true, cond-false}
 use Rattle.lattice.specs.Sets.{has, every, some_below, least}
-use Rattle.lattice.specs.Order.{Order, Lattice, join, is_join, table, ladder}
-use Rattle.lattice.specs.Bounds.{Ordered, Joins}
+use Rattle.lattice.specs.Order.{Order, Lattice, meet, join, is_join, table, ladder}
+use Rattle.lattice.specs.Bounds.{Ordered, Meets, Joins}
 use Rattle.lattice.specs.Faults.{Clean, stray_bits, stray, irreflexive, twinned, passes, gapped, unbounded, joinless, at_row, or_else, order_fault, fault}
 use Rattle.refusals.specs.declared.refusal.Refusal.{Refusal}
 use Rattle.refusals.specs.declared.refusal.Reason.TheVariants.{RowCount, StrayBit}
-use Rattle.lattice.specs.Tests.{T_and, and_T, decided, from_true, is_true, is_false, same_tests}
+use Rattle.lattice.specs.Tests.{T_and, and_T, decided, from_true, is_true, is_false, from_false, same_tests}
 use Rattle.lattice.specs.SetsLemmas.{First, absent, present, first, some_found, found_some, least_is_none, none_some}
 use Rattle.lattice.specs.Bits.{has_ext, has_high, subset_and, and_subset, shared_and, and_shared, shared_has}
-use Rattle.lattice.specs.Lattices.{join_joins, joins_join}
+use Rattle.lattice.specs.Orders.{ordered, meet_meets, meet_outside}
+use Rattle.lattice.specs.Lattices.{join_joins, joins_join, join_outside, join_inside}
 use Rattle.lattice.specs.FaultsLemmas.{sound_lattice, lattice_sound, or_else_none, none_or_else, none_at_row}
 
 -- the truncated law gives the law back, since whether an order has a fault is a test
@@ -259,10 +261,15 @@ pub two_lattice : Lattice (table (3 ∷ 2 ∷ []))
 unfolding order_fault irreflexive twinned passes gapped unbounded joinless join is_join some_below least every has
 two_lattice = sound_lattice (table (3 ∷ 2 ∷ [])) (table_inside (3 ∷ 2 ∷ [])) (omega arith) (omega arith) refl
 
-pub two_clean : Clean (3 ∷ 2 ∷ [])
-two_clean zero h = omega arith
-two_clean (suc zero) h = omega arith
-two_clean (suc (suc i)) h = let z : ⊥ = omega arith in absurd z
+pub two_clean : (rest : List ℕ) (i : ℕ) → i < 2 → slice_index (3 ∷ 2 ∷ rest) i < 4
+two_clean rest zero h = omega arith
+two_clean rest (suc zero) h = omega arith
+two_clean rest (suc (suc i)) h = let z : ⊥ = omega arith in absurd z
+
+pub two_rows_clean : Clean (3 ∷ 2 ∷ [])
+two_rows_clean zero h = omega arith
+two_rows_clean (suc zero) h = omega arith
+two_rows_clean (suc (suc i)) h = let z : ⊥ = omega arith in absurd z
 
 two_below_at : (a b : ℕ) → a < 2 → b < 2 → (table (3 ∷ 2 ∷ [])).below a b ≡ (ladder 2).below a b
 unfolding has
@@ -283,3 +290,151 @@ two_below a b =
     let low = ltb→lt b 2 w.0 in
     let le = leb→le a b w.1 in
     subst T (sym (two_below_at a b (omega arith) low)) t)
+
+-- rows that are copied one by one
+pub copy_more : (stored rows : List ℕ) (i : ℕ) → i < length stored → i < length rows → take i stored ≡ take i rows
+    → take (i + 1) (slice_set stored i (slice_index rows i)) ≡ take (i + 1) rows
+copy_more stored rows i p q e =
+    rw add-one (take-suc-set stored i (slice_index rows i) p ∙ ap (λ xs. xs ++ (slice_index rows i ∷ [])) e ∙ sym (take-suc rows i 0 q))
+
+-- what the copy holds: all rows
+pub copy_all : (stored rows : List ℕ) (i : ℕ) → i ≤ length rows → length rows ≤ i → take i stored ≡ take i rows → take (length rows) stored ≡ rows
+copy_all stored rows i p q e =
+    let all : length rows ≡ i = omega arith in
+    ap (λ n. take n stored) all ∙ e ∙ ap (λ n. take n rows) (sym all) ∙ take-length rows
+
+pub copy_clean : (stored rows : List ℕ) → take (length rows) stored ≡ rows → Clean rows → (i : ℕ) → i < length rows → slice_index stored i < 2 ^ length rows
+copy_clean stored rows e clean i h =
+    subst (λ x. x < 2 ^ length rows) (sym (sym (get_or-take (length rows) stored i 0 h) ∙ ap (λ xs. slice_index xs i) e)) (clean i h)
+
+-- the first n rows of a table
+module _ (stored : List ℕ) (n : ℕ) (fits : n ≤ length stored) where
+  pub prefix_length : length (take n stored) ≡ n
+  prefix_length = length-take-le n stored fits
+
+  pub prefix_clean : ((i : ℕ) → i < n → slice_index stored i < 2 ^ n) → Clean (take n stored)
+  prefix_clean clean i h =
+      let lt : i < n = omega (arith, prefix_length) in
+      rw (get_or-take n stored i 0 lt, prefix_length) (clean i lt)
+
+  pub prefix_below : (a b : ℕ) → a < n → b < n → has (slice_index stored a) b ≡ (table (take n stored)).below a b
+  prefix_below a b h k =
+      ap (λ x. has x b) (sym (get_or-take n stored a 0 h))
+      ∙ sym (table_below (take n stored) a b (omega (arith, prefix_length)) (omega (arith, prefix_length)))
+
+  pub prefix_no_below : (a b : ℕ) → (a < n → b < n → ⊥) → false ≡ (table (take n stored)).below a b
+  prefix_no_below a b out =
+      sym (is_false ((table (take n stored)).below a b)
+      (λ t. let w = table_inside (take n stored) a b t in out (omega (arith, w.0, prefix_length)) (omega (arith, w.1, prefix_length))))
+
+-- the search of a meet: `best` is a lower bound of a and b, and is their meet once the search has passed it
+abbrev pub Best : Order → ℕ → ℕ → ℕ → ℕ → Type 0
+Best o a b best x = (best < o.size) × T (o.below best a) × T (o.below best b) × ((m : ℕ) → Meets o a b m → m < x → best ≡ m)
+
+module _ (o : Order) (l : Lattice o) (a b : ℕ) where
+  pub best_start : a < o.size → b < o.size → Best o a b 0 0
+  best_start h k = let two = l.at_least_two in (omega arith, l.bottom_below a h, l.bottom_below b k, λ m _ lt. let z : ⊥ = omega arith in absurd z)
+
+  pub best_take : (best x : ℕ) → Best o a b best x → T (o.below x a) → T (o.below x b) → T (o.below best x) → Best o a b x (x + 1)
+  best_take best x w p q r = (
+    (l.inside x a p).0,
+    p,
+    q,
+    λ m h lt. elim (cases_lt m x) [
+      | inl less ↦
+          let up : T (o.below m x) = subst (λ y. T (o.below y x)) (w.3 m h less) r in
+          l.antisymmetric x m (h.greatest x p q) up
+      | inr more ↦ omega arith
+    ],
+  )
+
+  pub best_keep : (best x : ℕ) → Best o a b best x → (T (o.below x a) → T (o.below x b) → T (o.below best x) → ⊥) → Best o a b best (x + 1)
+  best_keep best x w f = (
+    w.0,
+    w.1,
+    w.2,
+    λ m h lt. elim (cases_lt m x) [
+      | inl less ↦ w.3 m h less
+      | inr more ↦
+          let same : m ≡ x = omega arith in
+          absurd (f (subst (λ y. T (o.below y a)) same h.below_left) (subst (λ y. T (o.below y b)) same h.below_right)
+          (subst (λ y. T (o.below best y)) same (h.greatest best w.1 w.2)))
+    ],
+  )
+
+  pub best_end : (best x : ℕ) → a < o.size → b < o.size → o.size ≤ x → Best o a b best x → Some best ≡ meet o a b
+  best_end best x h k le w =
+      let m = l.has_meet a b h k in
+      let found = meet_meets o (ordered l) a b m.0 m.1 in
+      let m_in : m.0 < o.size = (l.inside m.0 a found.below_left).0 in
+      sym (m.1 ∙ ap Some (sym (w.3 m.0 found (omega arith))))
+
+module _ (stored : List ℕ) (n : ℕ) (fits : n ≤ length stored) (law : ∥ Lattice (table (take n stored)) ∥₁) where
+  lawful : Lattice (table (take n stored))
+  lawful = table_back (take n stored) law
+
+  same_length : length (take n stored) ≡ n
+  same_length = prefix_length stored n fits
+
+  in_prefix : (x : ℕ) → x < n → x < length (take n stored)
+  in_prefix x h = omega (arith, same_length)
+
+  out_of_prefix : (a b : ℕ) → (a < n → b < n → ⊥) → a < length (take n stored) → b < length (take n stored) → ⊥
+  out_of_prefix a b out h k = out (omega (arith, same_length)) (omega (arith, same_length))
+
+  pub prefix_no_meet : (a b : ℕ) → (a < n → b < n → ⊥) → None ≡ meet (table (take n stored)) a b
+  prefix_no_meet a b out = sym (meet_outside (table (take n stored)) (ordered lawful) a b (out_of_prefix a b out))
+
+  pub prefix_no_join : (a b : ℕ) → (a < n → b < n → ⊥) → None ≡ join (table (take n stored)) a b
+  prefix_no_join a b out = sym (join_outside (table (take n stored)) (ordered lawful) a b (out_of_prefix a b out))
+
+  pub search_start : (a b : ℕ) → a < n → b < n → Best (table (take n stored)) a b 0 0
+  search_start a b h k = best_start (table (take n stored)) lawful a b (in_prefix a h) (in_prefix b k)
+
+  pub search_take : (a b best x : ℕ) → a < n → b < n → x < n → Best (table (take n stored)) a b best x
+      → ((has (slice_index stored x) a && has (slice_index stored x) b) && has (slice_index stored best) x) ≡ true
+      → Best (table (take n stored)) a b x (x + 1)
+  search_take a b best x h k lt w e =
+      let best_in : best < n = omega (arith, w.0, same_length) in
+      let u = T_and (has (slice_index stored x) a && has (slice_index stored x) b) (has (slice_index stored best) x) (from_true _ e) in
+      let v = T_and (has (slice_index stored x) a) (has (slice_index stored x) b) u.0 in
+      best_take (table (take n stored)) lawful a b best x w
+      (subst T (prefix_below stored n fits x a lt h) v.0)
+      (subst T (prefix_below stored n fits x b lt k) v.1)
+      (subst T (prefix_below stored n fits best x best_in lt) u.1)
+
+  pub search_keep : (a b best x : ℕ) → a < n → b < n → x < n → Best (table (take n stored)) a b best x
+      → ((has (slice_index stored x) a && has (slice_index stored x) b) && has (slice_index stored best) x) ≡ false
+      → Best (table (take n stored)) a b best (x + 1)
+  search_keep a b best x h k lt w e =
+      let best_in : best < n = omega (arith, w.0, same_length) in
+      best_keep (table (take n stored)) lawful a b best x w
+      (λ p q r. from_false _ e
+      (and_T (has (slice_index stored x) a && has (slice_index stored x) b) (has (slice_index stored best) x)
+      (and_T (has (slice_index stored x) a) (has (slice_index stored x) b)
+      (subst T (sym (prefix_below stored n fits x a lt h)) p) (subst T (sym (prefix_below stored n fits x b lt k)) q))
+      (subst T (sym (prefix_below stored n fits best x best_in lt)) r)))
+
+  pub search_end : (a b best x : ℕ) → a < n → b < n → n ≤ x → Best (table (take n stored)) a b best x → Some best ≡ meet (table (take n stored)) a b
+  search_end a b best x h k le w =
+      best_end (table (take n stored)) lawful a b best x (in_prefix a h) (in_prefix b k) (omega (arith, same_length)) w
+
+  pub prefix_join : ((i : ℕ) → i < n → slice_index stored i < 2 ^ n) → (a b : ℕ) → a < n → b < n
+      → join (table (take n stored)) a b ≡ least (λ k. nat_eq (slice_index (take n stored) k) (bit_and (slice_index stored a) (slice_index stored b))) (length (take n stored))
+  prefix_join clean a b h k =
+      sym (join_search (take n stored) (ordered lawful) (prefix_clean stored n fits clean) a b)
+      ∙ ap₂ (λ x y. least (λ i. nat_eq (slice_index (take n stored) i) (bit_and x y)) (length (take n stored))) (get_or-take n stored a 0 h) (get_or-take n stored b 0 k)
+
+  -- the part of the rows that is searched is the first n
+  pub part_is : take (n - 0) stored ≡ take n stored
+  part_is = ap (λ m. take m stored) (let e : n - 0 ≡ n = omega arith in e)
+
+  pub part_join : ((i : ℕ) → i < n → slice_index stored i < 2 ^ n) → (a b : ℕ) → a < n → b < n → (r : Option ℕ)
+      → r ≡ least (λ k. nat_eq (slice_index (take (n - 0) stored) k) (bit_and (slice_index stored a) (slice_index stored b))) (length (take (n - 0) stored))
+      → r ≡ join (table (take n stored)) a b
+  part_join clean a b h k r e =
+      e ∙ ap (λ xs. least (λ i. nat_eq (slice_index xs i) (bit_and (slice_index stored a) (slice_index stored b))) (length xs)) part_is
+      ∙ sym (prefix_join clean a b h k)
+
+  pub part_inside : (a b : ℕ) → (i : ℕ) → Some i ≡ join (table (take n stored)) a b → i < n
+  part_inside a b i e = omega (arith, join_inside (table (take n stored)) (ordered lawful) a b i (sym e), same_length)

@@ -57,7 +57,10 @@ impl TryFrom<&[u64]> for Table {
 
     ghost try_from_gives = { λ rows made. MatchResult made (λ t. (t.rows.items ≡ rows.now) × (fault rows.now ≡ None)) (λ why. fault rows.now ≡ Some why) };
 
-    fn try_from(rows: &[u64]) -> Result<Table, Refusal> {
+    fn try_from(rows: &[u64]) -> Result<Table, Refusal>
+        ensures gives { MatchResult result (λ t. (t.rows.items ≡ rows.now) × (fault rows.now ≡ None)) (λ why. fault rows.now ≡ Some why) }
+        ensures accepted { Decides (is_ok result) (Clean rows.now × Laws (table rows.now)) }
+    {
         rows::check(rows)?;
         Ok(Table {
             rows: ArrayVec::try_from(rows).unwrap(),
@@ -93,7 +96,11 @@ impl Lattice for Table {
         }))
     }
 
+    // What is no value has no row to be searched for.
     fn join(&self, a: u8, b: u8) -> Option<u8> {
+        if a >= self.size() || b >= self.size() {
+            return None;
+        }
         self.rows().join(a, b)
     }
 }

@@ -35,12 +35,18 @@ value_parts n v h = let parts = T_and (ltb 0 v) (ltb v n) h in (ltb→lt 0 v par
 
 -- ---- a fresh ledger
 
+length_counting : (n : ℕ) → length (counting n) ≡ n
+length_counting n = length-range_with_len 0 n
+
+get_or_counting : (n v : ℕ) → v < n → get_or (counting n) v 0 ≡ v
+get_or_counting n v low = omega (arith, get_or-range_with_len 0 n v 0 low)
+
 counting_good : (n : ℕ) → 0 < n → T (good_row n (counting n))
 counting_good n some =
     and_T (eqb (length (counting n)) n && eqb (get_or (counting n) 0 0) 0) (list_all (λ v. ltb v n) (counting n))
     (and_T (eqb (length (counting n)) n) (eqb (get_or (counting n) 0 0) 0)
-    (from_true _ (eq-eqb (length (counting n)) n (length-range_with_len 0 n)))
-    (from_true _ (eq-eqb (get_or (counting n) 0 0) 0 (get_or-range_with_len 0 n 0 0 some))))
+    (from_true _ (eq-eqb (length (counting n)) n (length_counting n)))
+    (from_true _ (eq-eqb (get_or (counting n) 0 0) 0 (get_or_counting n 0 some))))
     (from_true _ (list_all-from_AllPass (λ v. ltb v n) (counting n)
     (λ k d l. let low : k < n = omega (arith, length-range_with_len 0 n) in
     lt-ltb (get_or (counting n) k d) n (omega (arith, get_or-range_with_len 0 n k d low)))))

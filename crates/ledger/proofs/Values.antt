@@ -1,8 +1,10 @@
 -- The values that flow paths of a sound ledger bring go from 1 to the size less 1. Assumes nothing.
 use Rattle.std.proofs.Common.{◌≡◌, ℕ, ◌<◌, ◌&&◌, T, eqb, ltb, List, [], ◌∷◌, length, get_or, ap, inl, inr, arith, eqb→eq, lt→ltb}
+use mathlib.Core.Logic.{∥∥₁_elim}
+use lib.Dec.{T_prop}
 use lib.ListN.{get_or-eq_default}
 use Rattle.std.proofs.lemmas.Bool.{cases_lt, ltb-true}
-use Rattle.ledger.specs.Ledger.{Ledger, good_row, good_value, node_at, flow_at, carried, Trail, IsFlowPath}
+use Rattle.ledger.specs.Ledger.{Ledger, good_row, good_value, node_at, flow_at, carried, Trail, IsFlowPath, Brought}
 use Rattle.ledger.specs.Sound.{Sound}
 use Rattle.std.specs.List.{list_all}
 use Rattle.std.proofs.lemmas.List.Sums.{AllPass-from_list_all}
@@ -45,3 +47,6 @@ path_value L sound fs b y (a, x, inside, marked, trail) =
     let first = range_value L.sizes.types (node_at L a).marks x (sound.nodes a inside).marks marked in
     let last = trail_value L sound fs a x b y first.0 first.1 trail in
     and_T (ltb 0 y) (ltb y L.sizes.types) (lt→ltb 0 y last.0) (lt→ltb y L.sizes.types last.1)
+
+pub brought_value : (L : Ledger) → Sound L → (n v : ℕ) → Brought L n v → T (good_value L.sizes.types v)
+brought_value L sound n v brought = ∥∥₁_elim brought (T_prop (good_value L.sizes.types v)) (λ found. path_value L sound found.0 n v found.1)

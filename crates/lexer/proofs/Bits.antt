@@ -1,6 +1,7 @@
 -- One value put into a set.
-use Rattle.std.proofs.Common.{◌≡◌, ℕ, ◌^◌, true, ◌⊎◌, inl, inr, arith}
+use Rattle.std.proofs.Common.{◌≡◌, ℕ, ◌/◌, ◌^◌, true, eqb, ◌⊎◌, ap, inl, inr, arith}
 use native.Mathlib.Decide.{ℕ_discrete}
+use lib.Bits.{bit_and, and_mask}
 use Rattle.std.proofs.lemmas.Bool.{eqb-true, eq-eqb}
 use Rattle.std.proofs.lemmas.Nat.Bits.{bit_at-lt, bit_at-zero, bit_at_or, bit_at-pow_same, bit_at-pow_other}
 use Rattle.lexer.specs.Sets.{has_value, with_value}
@@ -21,3 +22,7 @@ put_cases s v u h = go (ℕ_discrete u v)
 -- the empty set has no values
 pub none_in : (v : ℕ) → has_value 0 v ≡ true → ⊥
 none_in v h = omega (arith, bit_at-zero v, eqb-true _ 1 h)
+
+-- what a test of the lowest bit after a shift says
+pub has_by_and : (s v : ℕ) → eqb (bit_and (s / 2 ^ v) 1) 1 ≡ has_value s v
+has_by_and s v = ap (λ x. eqb x 1) (and_mask (s / 2 ^ v) 1)

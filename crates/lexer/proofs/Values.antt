@@ -1,11 +1,12 @@
 -- The numbers that digits and marks write.
-use Rattle.std.proofs.Common.{◌≡◌, ℕ, ◌^◌, ◌<◌, ◌≤◌, Bool, true, false, eqb, ltb, List, [], ◌∷◌, length, take, drop, Some, None, Ok, Err, Option, Result, sym, refl, ap, ◌∙◌, inl, inr, arith}
+use Rattle.std.proofs.Common.{◌≡◌, ℕ, ◌^◌, ◌<◌, ◌≤◌, Bool, true, false, eqb, ltb, List, [], ◌∷◌, length, get_or, take, drop, Some, None, Ok, Err, Option, Result, sym, refl, ap, ◌∙◌, inl, inr, arith}
 use Rattle.std.specs.Char.{digit_value}
 use Rattle.std.specs.List.{list_all}
 use Rattle.std.specs.Str.{IsUtf8, IsAscii}
 use Rattle.std.specs.Str.Parse.{AllDigits, digits_value, without_leading_plus, IsNumeral}
 use Rattle.std.specs.Cmp.Lexicographic.{pointwise}
-use Rattle.std.proofs.lemmas.Bool.{cases_Bool, cases_lt, and_parts, ltb-true, le-leb, lt-leb, eqb-true, cond-true, cond-false}
+use Rattle.std.proofs.lemmas.Bool.{cases_Bool, cases_lt, and_parts, and_right, ltb-true, le-leb, lt-leb, eqb-true, cond-true, cond-false}
+use Rattle.std.proofs.lemmas.List.{get_or_past}
 use Rattle.std.proofs.lemmas.Str.{IsUtf8-from_ascii}
 use Rattle.std.proofs.lemmas.Str.Ascii.{IsAscii-nil, IsAscii-cons}
 use Rattle.lexer.specs.Classes.{one_or_more}
@@ -81,6 +82,9 @@ pub mark_is : (word : List ℕ) → pointwise eqb (take 2 word) (48 ∷ 120 ∷ 
 mark_is [] = refl
 mark_is (a ∷ []) = elim (cases_Bool (eqb a 48)) [ inl e ↦ rw e | inr e ↦ rw e ]
 mark_is (a ∷ b ∷ bs) = elim (cases_Bool (eqb a 48)) [ inl e ↦ rw e (elim (cases_Bool (eqb b 120)) [ inl f ↦ rw f | inr f ↦ rw f ]) | inr e ↦ rw e ]
+
+pub short_unmarked : (word : List ℕ) → length word < 2 → false ≡ is_marked word
+short_unmarked word h = sym (and_right (eqb (get_or word 0 0) 48) _ (rw (get_or_past word 1 0 (omega arith))))
 
 pub marked_number : (word : List ℕ) (most : ℕ) (r : Result ℕ NumberFault) → is_marked word ≡ true
     → r ≡ up_to most (in_base 16 (drop 2 word)) → r ≡ up_to most (number_of word)

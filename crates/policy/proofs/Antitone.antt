@@ -70,6 +70,14 @@ module _ (o : Order) (laws : Lattice o) where
             | inr below ↦ below_transitive o laws (meet_of o w v) (meet_of o w higher.0) (overlap o u w) (meet_monotone_right o laws w v higher.0 below) upper
           ]
 
+  pub overlap_covered : (t u w : ℕ) → covered_in o t u ≡ true → Below o (overlap o t w) (overlap o u w)
+  overlap_covered t u w h = overlap_monotone t u w (under_from_covered o t u h)
+
+  pub narrowed_in_inside : (t l x : ℕ) → has (narrowed_in o t l) x ≡ true → x < o.size
+  narrowed_in_inside t l x h =
+      let found = (decides_narrowed_in o t l x).0 h in
+      subst (λ (y : ℕ). y < o.size) found.3 (overlap_inside o laws t found.0)
+
   -- the bottom in the narrowing of u is in that of t
   pub narrowed_in_bottom : (t u l : ℕ) → Under o t u → has (narrowed_in o u l) 0 ≡ true → has (narrowed_in o t l) 0 ≡ true
   narrowed_in_bottom t u l under h =
@@ -85,6 +93,19 @@ module _ (o : Order) (laws : Lattice o) where
         (decides_narrowed_in o u l (overlap o u found.0)).1 (found.0, found.1, found.2, refl),
         inr (subst (λ (y : ℕ). Below o y (overlap o u found.0)) found.3 (overlap_monotone t u found.0 under)),
       )
+
+  -- the narrowing of t is covered by that of u
+  pub narrowed_in_covered : (t u l : ℕ) → Under o t u → covered_in o (narrowed_in o t l) (narrowed_in o u l) ≡ true
+  narrowed_in_covered t u l under = (decides_covered_in o (narrowed_in o t l) (narrowed_in o u l)).1 go
+    where
+      go : (x : ℕ) → x < 64 → has (narrowed_in o t l) x ≡ true → Reached o (narrowed_in o u l) x
+      go x inside h =
+          let found = (decides_narrowed_in o t l x).0 h in (
+            overlap o u found.0,
+            omega (arith, overlap_inside o laws u found.0, laws.at_most_64),
+            (decides_narrowed_in o u l (overlap o u found.0)).1 (found.0, found.1, found.2, refl),
+            subst (λ (y : ℕ). Below o y (overlap o u found.0)) found.3 (overlap_monotone t u found.0 under),
+          )
 
 -- ---- labels
 
@@ -143,6 +164,10 @@ module _ (s : Scheme) (laws : Lattices s) where
       (covered_in_under s.role laws.role t.role u.role l.role under.role parts.2)
       (covered_in_under s.types laws.types t.types u.types l.types under.types parts.3)
 
+  -- labels covered by a covered label are covered
+  pub covered_transitive : (t u l : Label) → covered s t u ≡ true → covered s u l ≡ true → covered s t l ≡ true
+  covered_transitive t u l p q = covered_under t u l (label_under_from_covered s t u p) q
+
   pub narrowed_under : (t u l : Label) → LabelUnder s t u → LabelUnder s (narrowed s t l) (narrowed s u l)
   narrowed_under t u l under = record {
     store = narrowed_in_under s.store laws.store t.store u.store l.store under.store;
@@ -197,3 +222,7 @@ module _ (s : Scheme) (laws : Lattices s) where
   -- with fewer data types an allowed label is allowed
   pub allows_subset : (c : Clause) (t : Label) (d e : ℕ) → Subset d e → allows s c (with_types t e) ≡ true → allows s c (with_types t d) ≡ true
   allows_subset c t d e sub = allows_under c (with_types t d) (with_types t e) (label_under_from_subset s t d e sub)
+
+  -- a label is allowed exactly when it is allowed with every subset of its data types
+  pub decides_by_subsets : (c : Clause) (t : Label) → Decides (allows s c t) ((d : ℕ) → Subset d t.types → allows s c (with_types t d) ≡ true)
+  decides_by_subsets c t = (λ h d sub. allows_subset c t d t.types sub h, λ each. each t.types (λ v inside holds. holds))

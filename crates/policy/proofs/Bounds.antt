@@ -1,8 +1,8 @@
 -- What the laws of a lattice give: meets and joins are bounds, and `overlap` is the least upper bound of the meets. Assumes nothing.
-use Rattle.std.proofs.Common.{◌≡◌, ℕ, suc, ◌<◌, Bool, true, false, not, ◌&&◌, ◌||◌, T, ◌⊎◌, Some, None, Option, sym, refl, ap, subst, inl, inr, arith}
+use Rattle.std.proofs.Common.{◌≡◌, ℕ, suc, ◌<◌, Bool, true, false, not, ◌&&◌, ◌||◌, T, ◌⊎◌, Some, None, Option, unwrap_or, sym, refl, ap, subst, inl, inr, arith}
 use Rattle.std.proofs.lemmas.Bool.{cases_lt, cases_eq, and_parts, both_ways}
 use Rattle.lattice.specs.Sets.{has, every}
-use Rattle.lattice.specs.Order.{Order, Lattice, is_meet, is_join, meet, join}
+use Rattle.lattice.specs.Order.{Order, Lattice, is_meet, is_join, meet, join, top}
 use Rattle.policy.specs.Clauses.{value_or_bottom, overlap}
 use Rattle.policy.proofs.Sets.{every_below, least_passes, gather_keeps}
 
@@ -29,6 +29,11 @@ pub record LeastUpper (o : Order) (a b j : ℕ) : Type 0 where
   pub left : Below o a j
   pub right : Below o b j
   pub least : (x : ℕ) → Below o a x → Below o b x → Below o j x
+
+-- what `unwrap_or(0)` makes of what a lattice answers
+pub value_or_0 : (x : Option ℕ) → unwrap_or x 0 ≡ value_or_bottom x
+value_or_0 (Some v) = refl
+value_or_0 None = refl
 
 -- the meet and the join as values: the bottom where there is none
 abbrev pub meet_of : Order → ℕ → ℕ → ℕ
@@ -60,6 +65,9 @@ module _ (o : Order) (laws : Lattice o) where
 
   pub bottom_below : (a : ℕ) → a < o.size → Below o 0 a
   bottom_below a h = true_from_T (o.below 0 a) (laws.bottom_below a h)
+
+  pub below_top : (a : ℕ) → a < o.size → Below o a (top o)
+  below_top a h = true_from_T (o.below a (top o)) (laws.top_above a h)
 
   pub bottom_inside : 0 < o.size
   bottom_inside = omega (arith, laws.at_least_two)
@@ -159,6 +167,12 @@ module _ (o : Order) (laws : Lattice o) where
   pub join_inside : (a b : ℕ) → a < o.size → b < o.size → join_of o a b < o.size
   join_inside a b p q = inside_right a (join_of o a b) (join_least_upper a b p q).left
 
+  pub join_monotone : (a b c d : ℕ) → Below o a b → Below o c d → Below o (join_of o a c) (join_of o b d)
+  join_monotone a b c d p q =
+      let high = join_least_upper b d (inside_right a b p) (inside_right c d q) in
+      (join_least_upper a c (inside_left a b p) (inside_left c d q)).least (join_of o b d)
+      (below_transitive a b (join_of o b d) p high.left) (below_transitive c d (join_of o b d) q high.right)
+
   -- ---- overlap
 
   pub overlap_inside : (t w : ℕ) → overlap o t w < o.size
@@ -203,3 +217,13 @@ module _ (o : Order) (laws : Lattice o) where
       gather_keeps (λ sum v. join_of o sum (meet_of o w v)) 0 t (λ n sum. Below o sum x) 64 (bottom_below x inside)
       (λ k sum below holds before. (join_least_upper sum (meet_of o w k) (inside_left sum x before) (meet_inside w k)).least x before (upper k below holds))
       (λ k sum below absent before. before)
+
+  pub overlap_below : (t w : ℕ) → w < o.size → Below o (overlap o t w) w
+  overlap_below t w inside = overlap_least t w w inside go
+    where
+      go : (v : ℕ) → v < 64 → has t v ≡ true → Below o (meet_of o w v) w
+      go v below holds =
+          elim (meet_ways w v) [
+            | inl both ↦ both.2.left
+            | inr none ↦ subst (λ (x : ℕ). Below o x w) (sym none) (bottom_below w inside)
+          ]

@@ -1,6 +1,6 @@
 -- The first clause of a policy's words, and what comes after it.
 use Rattle.std.proofs.Common.{MatchResult, ◌≡◌, ℕ, ◌+◌, ◌-◌, ◌<◌, ◌≤◌, cond, List, [], ◌∷◌, length, get_or, drop, Some, None, Option, Ok, Err, Result, sym, refl, ap, ◌∙◌, subst, arith, length-drop, length-append, length-set}
-use Rattle.std.proofs.lemmas.Bool.{eq-eqb, ne_eqb}
+use Rattle.std.proofs.lemmas.Bool.{eq-eqb, ne_eqb, or_left, or_right, lt-ltb}
 use Rattle.arrayvec.specs.ArrayVec.{ArrayVec}
 use Rattle.lattice.specs.declared.sizes.Sizes.{Sizes}
 use Rattle.policy.specs.declared.clause.Kind.{Kind}
@@ -8,7 +8,7 @@ use Rattle.policy.specs.declared.draft.Phase.TheVariants.{Listing}
 use Rattle.policy.specs.declared.draft.Draft.{Draft}
 use Rattle.policy.specs.declared.clause.ClauseRecord.{ClauseRecord}
 use Rattle.refusals.specs.declared.refusal.Reason.{Reason}
-use Rattle.refusals.specs.declared.refusal.Reason.TheVariants.{MisplacedWord}
+use Rattle.refusals.specs.declared.refusal.Reason.TheVariants.{MisplacedWord, WordCount}
 use Rattle.refusals.specs.declared.refusal.Refusal.{Refusal}
 use Rattle.policy.specs.declared.word.Word.{Word}
 use Rattle.policy.specs.declared.word.Word.TheVariants.{Head, Value, Except, End}
@@ -60,7 +60,7 @@ module _ (d : Draft) (ws : List ℕ) (some : 1 ≤ length ws) (count : d.clauses
       by None n e = ap Err (sym e)
 
   module _ (k : Kind) (is : w ≡ Some (Head k)) where
-    begun_on : (rest : List ℕ) (e : Draft) (y : ClauseRecord) → Closes (just_open k 0) (numbered k d) (fresh k) (tail ws) rest e y → Begins d ws rest (stored e (length d.clauses.items) y)
+    pub begun_on : (rest : List ℕ) (e : Draft) (y : ClauseRecord) → Closes (just_open k 0) (numbered k d) (fresh k) (tail ws) rest e y → Begins d ws rest (stored e (length d.clauses.items) y)
     begun_on rest e y h =
         let c : Closes (just_open k 0) (numbered k d) (fresh k) (drop 1 ws) rest e y = subst (λ q. Closes (just_open k 0) (numbered k d) (fresh k) q rest e y) (tail_is ws) h in
         record {
@@ -71,7 +71,7 @@ module _ (d : Draft) (ws : List ℕ) (some : 1 ≤ length ws) (count : d.clauses
           on = outside_head d ws some (omega arith) count k (sym ew ∙ is) ∙ c.on [] [] (length d.clauses.items) refl;
         }
 
-    begun_stops : (r : Refusal) → Stops (just_open k 0) (numbered k d) (fresh k) (tail ws) r → goes d [] [] ws ≡ Err r
+    pub begun_stops : (r : Refusal) → Stops (just_open k 0) (numbered k d) (fresh k) (tail ws) r → goes d [] [] ws ≡ Err r
     begun_stops r h =
         let c : Stops (just_open k 0) (numbered k d) (fresh k) (drop 1 ws) r = subst (λ q. Stops (just_open k 0) (numbered k d) (fresh k) q r) (tail_is ws) h in
         outside_head d ws some (omega arith) count k (sym ew ∙ is) ∙ c [] [] (length d.clauses.items) refl
@@ -159,3 +159,9 @@ drafted z sized v ev ws lo hi e f =
 pub draft_stops : (z : Sizes) (v : ArrayVec ClauseRecord) → v.items ≡ [] → (ws : List ℕ) → 1 ≤ length ws → length ws ≤ 4096 → (x : Refusal) → goes (blank z v ws) [] [] ws ≡ Err x → words_fault z ws ≡ Some x
 draft_stops z v ev ws lo hi x e =
     within z ws lo hi ∙ stopped (fault_from z nothing_read 0 ws) (walk (recorded z) z nothing_read unread 0 ws) x (agrees (recorded z) z ws nothing_read unread 0) (sym (from_zero z v ev ws) ∙ e)
+
+pub none_given : (z : Sizes) (ws : List ℕ) → length ws ≡ 0 → words_fault z ws ≡ Some (record { reason = WordCount; place = 0 })
+none_given z ws e = ap (λ b. cond b (Some (record { reason = WordCount; place = 0 })) (fault_from z nothing_read 0 ws)) (or_left _ _ (eq-eqb (length ws) 0 e))
+
+pub too_many : (z : Sizes) (ws : List ℕ) → 4096 < length ws → words_fault z ws ≡ Some (record { reason = WordCount; place = 0 })
+too_many z ws h = ap (λ b. cond b (Some (record { reason = WordCount; place = 0 })) (fault_from z nothing_read 0 ws)) (or_right _ _ (lt-ltb 4096 (length ws) h))

@@ -64,11 +64,11 @@ module _ {X : Type 0} (f : Reading → Word → X → X) (z : Sizes) (r : Readin
   walk_stop y e = ap (λ o. elim o [ Err y ↦ Err (record { reason = y; place = i }) | Ok u ↦ walk f z (advanced r u) (f r u x) (i + 1) ws ]) e
 
 module _ (z : Sizes) (r : Reading) (i w : ℕ) (ws : List ℕ) where
-  fault_on : (v : Word) → admitted z r w ≡ Ok v → fault_from z r i (w ∷ ws) ≡ fault_from z (advanced r v) (i + 1) ws
+  pub fault_on : (v : Word) → admitted z r w ≡ Ok v → fault_from z r i (w ∷ ws) ≡ fault_from z (advanced r v) (i + 1) ws
   unfolding fault_from
   fault_on v e = ap (λ o. elim o [ Err y ↦ Some (record { reason = y; place = i }) | Ok u ↦ fault_from z (advanced r u) (i + 1) ws ]) e
 
-  fault_stop : (y : Reason) → admitted z r w ≡ Err y → fault_from z r i (w ∷ ws) ≡ Some (record { reason = y; place = i })
+  pub fault_stop : (y : Reason) → admitted z r w ≡ Err y → fault_from z r i (w ∷ ws) ≡ Some (record { reason = y; place = i })
   unfolding fault_from
   fault_stop y e = ap (λ o. elim o [ Err y ↦ Some (record { reason = y; place = i }) | Ok u ↦ fault_from z (advanced r u) (i + 1) ws ]) e
 

@@ -194,6 +194,9 @@ pub record Passed (s : Scheme) (rs : List ClauseRecord) (i : ℕ) (t : Label) (u
   pub same : rest s rs i t usual (i + 1) ≡ rest s rs i t usual j
   pub same_by : rest_by s rs i t usual (i + 1) ≡ rest_by s rs i t usual j
 
+pub passed_none : (s : Scheme) (rs : List ClauseRecord) (i : ℕ) (t : Label) (usual : Bool) → Passed s rs i t usual (i + 1)
+passed_none s rs i t usual = record { above = omega arith; same = refl; same_by = refl }
+
 module _ (s : Scheme) (rs : List ClauseRecord) (i : ℕ) (label t : Label) (usual : Bool) (asked : Asked s rs i label t usual) where
   answer_is : allows s (tree rs i) label ≡ rest s rs i t usual (i + 1)
   answer_is =

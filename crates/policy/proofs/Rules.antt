@@ -1,5 +1,5 @@
 -- `allows` computes what the rules derive. Assumes nothing.
-use Rattle.std.proofs.Common.{◌≡◌, true, false, refl, inl, inr}
+use Rattle.std.proofs.Common.{◌≡◌, true, false, ◌⊎◌, Decides, refl, inl, inr}
 use Rattle.std.proofs.lemmas.Bool.{and_parts, and_from, and_cases, and_left, and_right, or_cases, or_parts, or_from, or_left, or_right, both_ways, cases_Bool}
 use Rattle.lattice.specs.Schemes.{Scheme}
 use Rattle.policy.specs.Clauses.{Label, Clause, Clauses, allow, deny, none, more, covered, narrowed, has_bottom, allows, all_allow, some_allows}
@@ -101,4 +101,20 @@ module _ (s : Scheme) where
   denies_sound c t (deny_denies {l = l} {es = es} met each) =
       or_from (has_bottom (narrowed s t l)) (some_allows s es (narrowed s t l)) met
       (none_allows_from es (narrowed s t l) (λ e m. denies_sound e (narrowed s t l) (each e m)))
+
   -- ---- both ways
+
+  -- a clause's test is true exactly when the rules derive that it allows, and false exactly when they derive that it denies
+  pub decides_allows : (c : Clause) (t : Label) → Decides (allows s c t) (Allows s c t)
+  decides_allows c t = (allows_derived c t, allows_sound c t)
+
+  pub denies_exactly : (c : Clause) (t : Label) → (allows s c t ≡ false → Denies s c t) × (Denies s c t → allows s c t ≡ false)
+  denies_exactly c t = (denies_derived c t, denies_sound c t)
+
+  -- every label is allowed or denied
+  pub allowed_or_denied : (c : Clause) (t : Label) → Allows s c t ⊎ Denies s c t
+  allowed_or_denied c t = elim (cases_Bool (allows s c t)) [ inl passes ↦ inl (allows_derived c t passes) | inr fails ↦ inr (denies_derived c t fails) ]
+
+  -- and never both
+  pub never_both : (c : Clause) (t : Label) → Allows s c t → Denies s c t → ⊥
+  never_both c t p q = both_ways (allows s c t) (denies_sound c t q) (allows_sound c t p)

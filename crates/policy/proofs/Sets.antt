@@ -1,6 +1,6 @@
 -- What the sets of lattices hold, and what is gathered over their values. Assumes nothing.
-use Rattle.std.proofs.Common.{◌≡◌, ℕ, zero, suc, ◌<◌, Bool, true, false, cond, not, ◌&&◌, ◌||◌, Some, None, Decides, Option, sym, refl, ap, ◌∙◌, subst, inl, inr, arith}
-use Rattle.std.proofs.lemmas.Bool.{cases_eq, and_parts, and_from, or_cases, or_left, or_right, both_ways}
+use Rattle.std.proofs.Common.{◌≡◌, ℕ, zero, suc, ◌+◌, ◌<◌, Bool, true, false, cond, not, ◌&&◌, ◌||◌, Some, None, Decides, Option, sym, refl, ap, ◌∙◌, subst, inl, inr, add-one, arith}
+use Rattle.std.proofs.lemmas.Bool.{cases_Bool, cases_eq, and_parts, and_from, or_cases, or_from, or_left, or_right, both_ways, cond-true, cond-false}
 use Rattle.lattice.specs.Sets.{has, with, every, some_below, least, all_of, some_of, gather, image}
 use Rattle.lattice.proofs.Members.{has_empty, has_with_same, has_with_other}
 
@@ -21,6 +21,9 @@ unfolding every
 every_from p zero h = refl
 every_from p (suc n) h = and_from (every p n) (p n) (every_from p n (λ v inside. h v (omega arith))) (h n (omega arith))
 
+pub decides_every : (p : ℕ → Bool) (n : ℕ) → Decides (every p n) ((v : ℕ) → v < n → p v ≡ true)
+decides_every p n = (every_below p n, every_from p n)
+
 pub some_below_at : (p : ℕ → Bool) (n : ℕ) → some_below p n ≡ true → (v : ℕ) × (v < n) × (p v ≡ true)
 unfolding some_below
 some_below_at p zero h = absurd (both_ways false refl h)
@@ -38,6 +41,9 @@ some_below_from p (suc n) v inside h =
       | inl same ↦ or_right (some_below p n) (p n) (subst (λ (x : ℕ). p x ≡ true) same h)
       | inr other ↦ or_left (some_below p n) (p n) (some_below_from p n v (omega arith) h)
     ]
+
+pub decides_some_below : (p : ℕ → Bool) (n : ℕ) → Decides (some_below p n) ((v : ℕ) × (v < n) × (p v ≡ true))
+decides_some_below p n = (some_below_at p n, λ found. some_below_from p n found.0 found.1 found.2)
 
 -- the least number that passes is below the bound and passes
 pub least_passes : (p : ℕ → Bool) (n k : ℕ) → least p n ≡ Some k → (k < n) × (p k ≡ true)
@@ -72,6 +78,17 @@ all_of_from s p h = every_from (λ v. not (has s v) || p v) 64 (λ v inside. go 
     go v true f = f refl
     go v false f = refl
 
+-- all_of is true exactly when p holds of each value of s
+pub decides_all_of : (s : ℕ) (p : ℕ → Bool) → Decides (all_of s p) ((v : ℕ) → v < 64 → has s v ≡ true → p v ≡ true)
+decides_all_of s p = (all_of_each s p, all_of_from s p)
+
+pub all_of_missed : (s : ℕ) (p : ℕ → Bool) (v : ℕ) → v < 64 → has s v ≡ true → p v ≡ false → all_of s p ≡ false
+all_of_missed s p v inside holds fails =
+    elim (cases_Bool (all_of s p)) [
+      | inl all ↦ absurd (both_ways (p v) fails (all_of_each s p all v inside holds))
+      | inr missed ↦ missed
+    ]
+
 pub some_of_at : (s : ℕ) (p : ℕ → Bool) → some_of s p ≡ true → (v : ℕ) × (v < 64) × (has s v ≡ true) × (p v ≡ true)
 unfolding some_of
 some_of_at s p h =
@@ -82,6 +99,10 @@ some_of_at s p h =
 pub some_of_from : (s : ℕ) (p : ℕ → Bool) (v : ℕ) → v < 64 → has s v ≡ true → p v ≡ true → some_of s p ≡ true
 unfolding some_of
 some_of_from s p v inside holds passes = some_below_from (λ v. has s v && p v) 64 v inside (and_from (has s v) (p v) holds passes)
+
+-- some_of is true exactly when p holds of some value of s
+pub decides_some_of : (s : ℕ) (p : ℕ → Bool) → Decides (some_of s p) ((v : ℕ) × (v < 64) × (has s v ≡ true) × (p v ≡ true))
+decides_some_of s p = (some_of_at s p, λ found. some_of_from s p found.0 found.1 found.2 found.3)
 
 -- ---- what is gathered over the values of a set
 
@@ -97,6 +118,28 @@ gather_keeps {A} f start s P (suc n) first taken passed =
     go : (a : A) → P n a → (b : Bool) → has s n ≡ b → P (suc n) (cond b (f a n) a)
     go a holds true e = taken n a (omega arith) e holds
     go a holds false e = passed n a (omega arith) e holds
+
+-- ---- one number more
+
+pub every_more : (p : ℕ → Bool) (n : ℕ) → every p n ≡ true → p n ≡ true → every p (n + 1) ≡ true
+every_more p n before here = subst (λ (k : ℕ). every p k ≡ true) (sym (add-one n)) (every_from p (suc n) go)
+  where
+    go : (v : ℕ) → v < suc n → p v ≡ true
+    go v inside = elim (cases_eq v n) [ inl same ↦ subst (λ (x : ℕ). p x ≡ true) (sym same) here | inr other ↦ every_below p n before v (omega arith) ]
+
+pub some_below_more : (p : ℕ → Bool) (n : ℕ) → some_below p n ≡ false → p n ≡ false → some_below p (n + 1) ≡ false
+unfolding some_below
+some_below_more p n before here = subst (λ (k : ℕ). some_below p k ≡ false) (sym (add-one n)) (or_from (some_below p n) (p n) before here)
+
+pub gather_taken : {A : Type 0} (f : A → ℕ → A) (start : A) (s n : ℕ) → has s n ≡ true → gather f start s (n + 1) ≡ f (gather f start s n) n
+unfolding gather
+gather_taken f start s n holds =
+    ap (gather f start s) (add-one n) ∙ cond-true (has s n) (f (gather f start s n) n) (gather f start s n) holds
+
+pub gather_passed : {A : Type 0} (f : A → ℕ → A) (start : A) (s n : ℕ) → has s n ≡ false → gather f start s (n + 1) ≡ gather f start s n
+unfolding gather
+gather_passed f start s n absent =
+    ap (gather f start s) (add-one n) ∙ cond-false (has s n) (f (gather f start s n) n) (gather f start s n) absent
 
 -- the values that `image` has made of those below n
 abbrev MadeBelow : (ℕ → ℕ) → ℕ → ℕ → ℕ → Type 0

@@ -95,13 +95,13 @@ module _ (o : Open) (d : Draft) (x : ClauseRecord) (ws : List ℕ) (some : 1 ≤
       goes_on o d ws some ready.within w ew fs ss el
       ∙ ap (λ y. walk (recorded d.sizes) d.sizes (advanced (reading o d fs) y) (recorded d.sizes (reading o d fs) y (records d ss)) (d.total - length (drop 1 ws)) (drop 1 ws)) is
 
-  at_except : w ≡ Except → (r : Result (List ℕ) Refusal) (e : Draft) (y : ClauseRecord)
+  pub at_except : w ≡ Except → (r : Result (List ℕ) Refusal) (e : Draft) (y : ClauseRecord)
       → Reads (record { kind = o.kind; phase = Excepting; last = o.last; depth = o.depth }) d x (tail ws) r e y → Reads o d x ws r e y
   at_except is r e y h =
       later o (record { kind = o.kind; phase = Excepting; last = o.last; depth = o.depth }) d d x x ws (drop 1 ws) (omega (arith, length-drop 1 ws)) (omega arith) refl refl refl (λ fs ss n el. on_by Except is fs (slot n x ∷ ss) el) r e y
       (subst (λ u. Reads (record { kind = o.kind; phase = Excepting; last = o.last; depth = o.depth }) d x u r e y) (tail_is ws) h)
 
-  at_value : (a v : ℕ) → w ≡ value a v → (x' : ClauseRecord) → x' ≡ with_value a v x → (r : Result (List ℕ) Refusal) (e : Draft) (y : ClauseRecord)
+  pub at_value : (a v : ℕ) → w ≡ value a v → (x' : ClauseRecord) → x' ≡ with_value a v x → (r : Result (List ℕ) Refusal) (e : Draft) (y : ClauseRecord)
       → Reads (record { kind = o.kind; phase = o.phase; last = record { attribute = a; code = v }; depth = o.depth }) d x' (tail ws) r e y
       → Reads o d x ws r e y
   at_value a v is x' ex r e y h =
@@ -111,7 +111,7 @@ module _ (o : Open) (d : Draft) (x : ClauseRecord) (ws : List ℕ) (some : 1 ≤
       later o (record { kind = o.kind; phase = o.phase; last = record { attribute = a; code = v }; depth = o.depth }) d d x (with_value a v x)
       ws (drop 1 ws) (omega (arith, length-drop 1 ws)) (omega arith) refl refl refl (λ fs ss n el. on_by (value a v) is fs (slot n x ∷ ss) el) r e y h₂
 
-  at_end : w ≡ End → (y : ClauseRecord) → y ≡ closed d.sizes (length d.clauses.items) x → Closes o d x ws (tail ws) d y
+  pub at_end : w ≡ End → (y : ClauseRecord) → y ≡ closed d.sizes (length d.clauses.items) x → Closes o d x ws (tail ws) d y
   at_end is y ey = record {
     shorter = omega (arith, ap length (tail_is ws), length-drop 1 ws);
     grows = omega arith;

@@ -36,13 +36,16 @@ past_end [] i l = refl
 past_end (y ∷ xs) zero l = absurd (omega arith)
 past_end (y ∷ xs) (suc i) l = past_end xs i (omega arith)
 
--- judge leaves the ledger as it was
+-- judge and path leave the ledger as it was
 kept_by : (L : Ledger) (o : Option Refusal) → L ≡ elim o [ Some r ↦ L | None ↦ L ]
 kept_by L (Some r) = refl
 kept_by L None = refl
 
 pub judge_kept : (L : Ledger) (n : ℕ) (z : Scheme) (p : Policy) → L ≡ after L (judge n z p)
 judge_kept L n z p = kept_by L (declined L (judge n z p))
+
+pub path_kept : (L : Ledger) (n x room : ℕ) → L ≡ after L (path n x room)
+path_kept L n x room = kept_by L (declined L (path n x room))
 
 module _ {V : Type 0} (orders : V → Scheme) (schemes : List V) (policies : List Held) where
   by_scheme : ℕ → ℕ → Lookup V → Option LedgerCall

@@ -21,25 +21,21 @@ use std::slice;
 struct Week {
     scheme: Office,
     policy: Policy,
-    requests: Vec<Request>,
+    calls: Vec<Call>,
 }
 
 impl Week {
-    fn new(heap: Global, scheme: Office) -> Week {
-        Week {
-            scheme,
-            policy: Policy::new(),
-            requests: Vec::new(heap),
+    // Asks for these too, and gives how many calls there were before.
+    fn ask(&mut self, requests: &[Request]) -> Result<usize, AllocError> {
+        let before = self.calls.len();
+        for request in requests {
+            self.calls.push(Call::from(*request))?;
         }
+        Ok(before)
     }
 
     // Makes all the calls from a fresh inventory on: over memory of its own, with room for 8 nodes and 8 flows.
-    fn run(&self, heap: Global) -> Result<Vec<Option<Answer>>, AllocError> {
-        let calls: Vec<Call> = self
-            .requests
-            .iter()
-            .map(|request| Call::from(*request))
-            .collect(heap)?;
+    fn answers(&self, heap: Global) -> Result<Vec<Option<Answer>>, AllocError> {
         runs::run(
             heap,
             self.scheme.sizes(),
@@ -48,50 +44,45 @@ impl Week {
             &mut [0; 1024],
             slice::from_ref(&self.scheme),
             slice::from_ref(&self.policy),
-            calls.as_slice(),
+            self.calls.as_slice(),
         )
     }
-
-    // The answers to what is asked on a day, after all that was asked before.
-    fn answers(
-        &mut self,
-        heap: Global,
-        today: &[Request],
-    ) -> Result<Vec<Option<Answer>>, AllocError> {
-        let before = self.requests.len();
-        self.requests.extend_from_slice(today)?;
-        let answers = self.run(heap)?;
-        answers.into_iter().skip(before).collect(heap)
-    }
 }
 
-// A day: what is asked is answered and told.
-fn live(
-    rt: &HostRuntime,
-    week: &mut Week,
-    heading: &str,
-    today: &[Request],
-) -> anyhow::Result<Vec<Option<Answer>>> {
-    let answers = week.answers(rt.alloc(), today)?;
-    println!(rt; "{heading}")?;
-    telling::tell(rt, today, answers.as_slice())?;
-    Ok(answers)
+// Monday and Tuesday, answered in one run: the policy has not been read yet.
+fn live_beginning(rt: &HostRuntime, week: &mut Week) -> anyhow::Result<()> {
+    let tuesday = requests::tuesday();
+    let monday = week.ask(&requests::MONDAY)?;
+    let counting = week.ask(&tuesday)?;
+    let answers = week.answers(rt.alloc())?;
+    println!(rt; "Monday, the file arrives")?;
+    telling::tell(rt, &requests::MONDAY, answers.as_slice(), monday)?;
+    println!(rt; "Tuesday, the layout job counts turns by chapter")?;
+    telling::tell(rt, &tuesday, answers.as_slice(), counting)
 }
 
-// Thursday and Friday: what a job was refused for on Thursday is asked for on Friday.
-fn live_rest(rt: &HostRuntime, week: &mut Week) -> anyhow::Result<()> {
-    let judging = "Thursday, every job is judged by what reaches it";
-    let answers = live(rt, week, judging, &requests::THURSDAY)?;
+// Thursday: gives the evidence on which the last job was refused.
+fn live_thursday(rt: &HostRuntime, week: &mut Week) -> anyhow::Result<u64> {
+    let judging = week.ask(&requests::THURSDAY)?;
+    let answers = week.answers(rt.alloc())?;
+    println!(rt; "Thursday, every job is judged by what reaches it")?;
+    telling::tell(rt, &requests::THURSDAY, answers.as_slice(), judging)?;
     println!(rt; "Friday, passed jobs are started")?;
-    telling::start_passed(rt, &requests::THURSDAY, answers.as_slice())?;
-    let evidence = match answers.last() {
+    telling::start_passed(rt, &requests::THURSDAY, answers.as_slice(), judging)?;
+    Ok(match answers.last() {
         Some(Some(Answer::Judged(verdict))) => verdict.evidence,
         _ => 0,
-    };
+    })
+}
+
+// Friday: what a job was refused for on Thursday is asked for.
+fn live_friday(rt: &HostRuntime, week: &mut Week, evidence: u64) -> anyhow::Result<()> {
     let friday = requests::friday(rt.alloc(), evidence)?;
-    let mending = "Friday, the refused job is mended";
-    let answers = live(rt, week, mending, friday.as_slice())?;
-    telling::start_passed(rt, friday.as_slice(), answers.as_slice())
+    let mending = week.ask(friday.as_slice())?;
+    let answers = week.answers(rt.alloc())?;
+    println!(rt; "Friday, the refused job is mended")?;
+    telling::tell(rt, friday.as_slice(), answers.as_slice(), mending)?;
+    telling::start_passed(rt, friday.as_slice(), answers.as_slice(), mending)
 }
 
 fn main(rt: HostRuntime) -> anyhow::Result<()> {
@@ -104,15 +95,15 @@ fn main(rt: HostRuntime) -> anyhow::Result<()> {
         }
     };
     office::show_scheme(&rt, &scheme)?;
-    let mut week = Week::new(rt.alloc(), scheme);
-    live(
-        &rt,
-        &mut week,
-        "Monday, the file arrives",
-        &requests::MONDAY,
-    )?;
-    let counting = "Tuesday, the layout job counts turns by chapter";
-    live(&rt, &mut week, counting, &requests::tuesday())?;
+    // Until Friday there are 22 calls.
+    let calls = Vec::with_capacity(rt.alloc(), 22)?;
+    let mut week = Week {
+        scheme,
+        policy: Policy::new(),
+        calls,
+    };
+    live_beginning(&rt, &mut week)?;
     office::read_policy(&rt, &mut week.policy, &week.scheme)?;
-    live_rest(&rt, &mut week)
+    let evidence = live_thursday(&rt, &mut week)?;
+    live_friday(&rt, &mut week, evidence)
 }

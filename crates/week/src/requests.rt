@@ -130,9 +130,8 @@ pub const THURSDAY: [Request; 6] = [
 
 /// On Friday the paths of what the readers' job was refused for are asked for; then the profiles reach it by region alone.
 pub fn friday(heap: Global, evidence: u64) -> Result<Vec<Request>, AllocError> {
-    let mut requests: Vec<Request> = bitset::values(evidence)
-        .map(|value| Request::Path(Node::Reader, value))
-        .collect(heap)?;
+    let mut requests = Vec::with_capacity(heap, evidence.count_ones() as usize + 5)?;
+    requests.extend(bitset::values(evidence).map(|value| Request::Path(Node::Reader, value)))?;
     requests.extend_from_slice(&[
         Request::Strike(Flow {
             from: Node::Profile,

@@ -28,26 +28,28 @@ fn tell_answer(rt: &impl Print, request: Request, answer: Option<&Answer>) -> an
     Ok(())
 }
 
-/// Tells what was asked on a day, each request with its answer.
+/// Tells what was asked on a day, each request with its answer: they begin behind so many of other days.
 pub fn tell(
     rt: &impl Print,
     requests: &[Request],
     answers: &[Option<Answer>],
+    before: usize,
 ) -> anyhow::Result<()> {
-    for (request, answer) in requests.iter().zip(answers) {
+    for (request, answer) in requests.iter().zip(answers.iter().skip(before)) {
         print!(rt; "  {request}")?;
         tell_answer(rt, *request, answer.as_ref())?;
     }
     Ok(())
 }
 
-/// Starts each job that passed.
+/// Starts each job that passed on that day.
 pub fn start_passed(
     rt: &impl Print,
     requests: &[Request],
     answers: &[Option<Answer>],
+    before: usize,
 ) -> anyhow::Result<()> {
-    for asked in requests.iter().zip(answers) {
+    for asked in requests.iter().zip(answers.iter().skip(before)) {
         if let (Request::Judge(node), Some(Answer::Judged(verdict))) = asked {
             if verdict.passed {
                 println!(rt; "  start {node}")?;

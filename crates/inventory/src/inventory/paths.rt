@@ -23,16 +23,10 @@ impl Inventory<'_> {
             return Err(Reason::NotInLabel.at(value as usize));
         }
         let count = self.workspace[128 * node + value as usize] as usize;
-        if count > piece.len() {
+        let from = node as u16;
+        if !flows::walk(self.workspace, self.flows, from, value, count, piece) {
             return Err(Reason::ShortPiece.at(0));
         }
-        flows::walk(
-            self.workspace,
-            self.flows,
-            node as u16,
-            value,
-            &mut piece[..count],
-        );
         Ok(count)
     }
 }

@@ -41,12 +41,8 @@ impl<'a> Inventory<'a> {
             settled: _,
         } = self;
         // What the inventory holds fits, so the answer is never an error.
-        let _ = flows::spread(
-            &mut nodes[..node_count],
-            workspace,
-            &flows[..flow_count],
-            steps.as_slice(),
-        );
+        let rows = steps.as_slice();
+        let _ = flows::spread(nodes, workspace, flows, rows, node_count, flow_count);
         Inventory {
             nodes,
             flows,

@@ -1,12 +1,9 @@
-use Rattle.std.proofs.Common.{◌≡◌, ℕ, ◌≤◌, List, ◌++◌, length, take, drop, Err, Result, sym, refl, ap, ◌∙◌, subst, MatchResult}
-use Rattle.std.proofs.Math.Seq.{take-append_seam, drop-append_seam}
-use Rattle.std.proofs.lemmas.List.{length-take-le}
+use Rattle.std.proofs.Common.{◌≡◌, ℕ, ◌<◌, ◌≤◌, Bool, true, false, List, length, drop, Err, Result, sym, refl, ap, ◌∙◌, subst, inl, inr, MatchResult}
+use Rattle.std.proofs.lemmas.Bool.{cases_lt, both_ways}
 use Rattle.std.proofs.lemmas.Result.{err_from_is_err_and}
 use Rattle.refusals.specs.declared.refusal.Refusal.{Refusal}
 use Rattle.ledger.specs.Ledger.{path}
 use Rattle.ledger.specs.Run.{Answered, shown}
-use Rattle.flows.specs.Certificate.{distance}
-use Rattle.flows.specs.Paths.{hops}
 use Rattle.inventory.specs.Answers.{path_answer}
 use Rattle.inventory.specs.Inventories.{view}
 use Rattle.inventory.specs.View.{ledger_of}
@@ -19,6 +16,10 @@ use Rattle.inventory.proofs.inventory.Inventory.path.Goals as goal
 rest_of : (piece : List ℕ) (r : Result ℕ Refusal) (e : Refusal) → r ≡ Err e
     → MatchResult r (λ k. (k ≤ length piece) × (drop k piece ≡ drop k piece)) (λ _. piece ≡ piece)
 rest_of piece r e is = subst (λ (q : Result ℕ Refusal). MatchResult q (λ k. (k ≤ length piece) × (drop k piece ≡ drop k piece)) (λ _. piece ≡ piece)) (sym is) refl
+
+too_short : (count room : ℕ) (b : Bool) → (count ≤ room → b ≡ true) → b ≡ false → room < count
+too_short count room b fits failed =
+    elim (cases_lt room count) [ inl less ↦ less | inr enough ↦ absurd (both_ways b failed (fits enough)) ]
 
 pub returns-in_err-check_path : goal.returns-in_err-check_path
 returns-in_err-check_path c =
@@ -53,20 +54,20 @@ returns-then-not-contains c =
       rest = refl;
     })
 
-pub returns-then-count-piece : goal.returns-then-count-piece
-returns-then-count-piece c =
+pub returns-then-not-walk : goal.returns-then-not-walk
+returns-then-not-walk c =
     let v = view c.args.self.now in
     let s = sound c.args.self.now in
     let room = length c.args.piece.now in
     let h = sym c.in_ok-check_path.ensures in
     let inside = sym c.if-not-contains.ensures in
-    let short = c.if-count-piece.true in
+    let short = too_short _ room c.walk.result c.walk.ensures.fits.1 c.if-not-walk.true in
     let answered = answer_short v s c.args.node c.args.value room h inside short in
-    rw c.at-then-count-piece.ensures (record {
+    rw c.at-then-not-walk.ensures (record {
       answered = answered;
       promised = path_promised v s c.args.node c.args.value room _ answered;
       told = sym (told_short v s c.args.node c.args.value room h inside short);
-      rest = refl;
+      rest = c.walk.ensures.refused c.if-not-walk.true;
     })
 
 pub returns : goal.returns
@@ -74,21 +75,15 @@ returns c =
     let v = view c.args.self.now in
     let s = sound c.args.self.now in
     let room = length c.args.piece.now in
-    let count : ℕ = distance v.workspace c.args.node c.args.value in
     let h = sym c.in_ok-check_path.ensures in
     let inside = sym c.if-not-contains.ensures in
-    let fits = c.if-count-piece.false in
-    let long : length c.walk.new.piece ≡ count = c.walk.auto.piece ∙ length-take-le count c.args.piece.now fits in
-    let front : take count (c.walk.new.piece ++ drop count c.args.piece.now) ≡ c.walk.new.piece =
-    sym (ap (λ k. take k (c.walk.new.piece ++ drop count c.args.piece.now)) long) ∙ take-append_seam c.walk.new.piece (drop count c.args.piece.now) in
-    let back : drop count (c.walk.new.piece ++ drop count c.args.piece.now) ≡ drop count c.args.piece.now =
-    sym (ap (λ k. drop k (c.walk.new.piece ++ drop count c.args.piece.now)) long) ∙ drop-append_seam c.walk.new.piece (drop count c.args.piece.now) in
-    let hops_are = front ∙ c.walk.ensures ∙ ap (λ k. hops v.workspace v.flows k c.args.node c.args.value) (length-take-le count c.args.piece.now fits) in
+    let fits = c.walk.ensures.fits.0 c.if-not-walk.false in
+    let hops_are = c.walk.ensures.hops c.if-not-walk.false in
     let answered = subst (λ (fs : List ℕ). Answered (ledger_of v) (path c.args.node c.args.value room) (shown fs)) (sym hops_are)
     (answer_shown v s c.args.node c.args.value room h inside fits) in
     record {
       answered = answered;
       promised = path_promised v s c.args.node c.args.value room _ answered;
       told = ap shown hops_are ∙ sym (told_shown v s c.args.node c.args.value room h inside fits);
-      rest = (fits, back);
+      rest = (fits, c.walk.ensures.rest);
     }
