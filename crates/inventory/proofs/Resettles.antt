@@ -1,15 +1,16 @@
 -- What settle leaves behind.
-use Rattle.std.proofs.Common.{◌≡◌, ℕ, zero, suc, ◌^◌, ◌<◌, ◌≤◌, true, List, [], ◌∷◌, map, length, get_or, take, sym, refl, ap, ◌∙◌, subst, arith, Result, Ok, Err, IsOk, OnOk}
+use Rattle.std.proofs.Common.{◌≡◌, ℕ, zero, suc, ◌^◌, ◌<◌, ◌≤◌, true, List, [], ◌∷◌, ◌++◌, map, length, get_or, take, drop, sym, refl, ap, ◌∙◌, subst, arith, Result, Ok, Err, IsOk, OnOk}
 use Rattle.policy.specs.Words.{in_range}
 use Rattle.ledger.specs.Ledger.{settle, after}
 use Rattle.flows.specs.declared.records.NodeRecord.{NodeRecord}
 use Rattle.inventory.specs.View.{View, made_of, ledger_of, node_of}
 use Rattle.flows.specs.Graph.{no_node}
-use Rattle.flows.specs.Graph.{graph}
+use Rattle.flows.specs.Graph.{graph, whole}
 use Rattle.inventory.specs.View.{graph_of}
 use Rattle.flows.specs.Certificate.{Certified}
 use Rattle.flows.specs.Fitting.{Fitting}
 use Rattle.flows.specs.Settled.{Relabeled, Beyond, Settled}
+use Rattle.flows.proofs.Firsts.{fits_first, after_settled}
 use Rattle.inventory.specs.Resettled.{Resettled}
 use Rattle.inventory.specs.Sound.{Sound, GoodNode}
 use Rattle.ledger.specs.Run.{LabelOf}
@@ -122,16 +123,39 @@ module _ (v : View) (s : Sound v) where
       (sound, settled_ledger ns ws long words past same here, (λ n l. label_right (After ns v.flows ws) sound here n l (small n l)), settled_rest ns ws long words past same here)
 
   -- the nodes and flows that are in use were settled by these steps
-  abbrev SettledBy : List (List ℕ) → List NodeRecord → List ℕ → Type 0
-  SettledBy rows ns ws = Settled v.flows rows v.node_count v.flow_count v.nodes ns v.workspace ws
+  abbrev SettledCounted : List (List ℕ) → List NodeRecord → List ℕ → Type 0
+  SettledCounted rows ns ws = Settled v.flows rows v.node_count v.flow_count v.nodes ns v.workspace ws
 
-  settled_here : (ns : List NodeRecord) (ws : List ℕ) → SettledBy v.steps ns ws → SettledAgain (After ns v.flows ws)
+  settled_here : (ns : List NodeRecord) (ws : List ℕ) → SettledCounted v.steps ns ws → SettledAgain (After ns v.flows ws)
   settled_here ns ws done = settled_again ns v.flows ws done.nodes_long done.words_long done.past refl done.same done.certified done.small
 
   -- what was settled, where it was not refused, since all fits
-  pub spread_again : {T E : Type 0} (r : Result T E) (rows : List (List ℕ)) (ns : List NodeRecord) (ws : List ℕ) → rows ≡ v.steps
-      → (Fitting (graph v.nodes v.flows rows v.node_count v.flow_count) v.workspace → IsOk r) → OnOk r (SettledBy rows ns ws)
+  pub spread_counted_again : {T E : Type 0} (r : Result T E) (rows : List (List ℕ)) (ns : List NodeRecord) (ws : List ℕ) → rows ≡ v.steps
+      → (Fitting (graph v.nodes v.flows rows v.node_count v.flow_count) v.workspace → IsOk r) → OnOk r (SettledCounted rows ns ws)
       → SettledAgain (After ns v.flows ws)
-  spread_again r rows ns ws is ok done =
+  spread_counted_again r rows ns ws is ok done =
       let fit = subst (λ (x : List (List ℕ)). Fitting (graph v.nodes v.flows x v.node_count v.flow_count) v.workspace) (sym is) fitting in
-      settled_here ns ws (subst (λ (x : List (List ℕ)). SettledBy x ns ws) is (on_ok r done (ok fit)))
+      settled_here ns ws (subst (λ (x : List (List ℕ)). SettledCounted x ns ws) is (on_ok r done (ok fit)))
+
+  abbrev first_nodes : List NodeRecord
+  first_nodes = take v.node_count v.nodes
+
+  abbrev first_flows : List FlowRecord
+  first_flows = take v.flow_count v.flows
+
+  -- the first nodes and flows, as lists of their own, were settled by these steps
+  abbrev SettledBy : List (List ℕ) → List NodeRecord → List ℕ → Type 0
+  SettledBy rows ns ws = Settled first_flows rows (length first_nodes) (length first_flows) first_nodes ns v.workspace ws
+
+  settled_firsts : (ns : List NodeRecord) (ws : List ℕ) → SettledBy v.steps ns ws → SettledAgain (After (ns ++ drop v.node_count v.nodes) v.flows ws)
+  settled_firsts ns ws done =
+      settled_here (ns ++ drop v.node_count v.nodes) ws (after_settled _ _ _ _ _ _ fitting.nodes_room fitting.flows_room _ _ done)
+
+  -- the same where the first alone were handed over, and those past them were not
+  pub spread_again : {T E : Type 0} (r : Result T E) (rows : List (List ℕ)) (ns : List NodeRecord) (ws : List ℕ) → rows ≡ v.steps
+      → (Fitting (whole first_nodes first_flows rows) v.workspace → IsOk r) → OnOk r (SettledBy rows ns ws)
+      → SettledAgain (After (ns ++ drop v.node_count v.nodes) v.flows ws)
+  spread_again r rows ns ws is ok done =
+      let fit = subst (λ (x : List (List ℕ)). Fitting (whole first_nodes first_flows x) v.workspace) (sym is)
+      (fits_first _ _ _ _ _ _ fitting.nodes_room fitting.flows_room fitting) in
+      settled_firsts ns ws (subst (λ (x : List (List ℕ)). SettledBy x ns ws) is (on_ok r done (ok fit)))
