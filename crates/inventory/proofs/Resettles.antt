@@ -1,5 +1,6 @@
 -- What settle leaves behind.
 use Rattle.std.proofs.Common.{◌≡◌, ℕ, zero, suc, ◌^◌, ◌<◌, ◌≤◌, true, List, [], ◌∷◌, ◌++◌, map, length, get_or, take, drop, sym, refl, ap, ◌∙◌, subst, arith, Result, Ok, Err, IsOk, OnOk}
+use Rattle.std.proofs.lemmas.Result.{on_ok_weaker}
 use Rattle.policy.specs.Words.{in_range}
 use Rattle.ledger.specs.Ledger.{settle, after}
 use Rattle.flows.specs.declared.records.NodeRecord.{NodeRecord}
@@ -147,15 +148,12 @@ module _ (v : View) (s : Sound v) where
   abbrev SettledBy : List (List ℕ) → List NodeRecord → List ℕ → Type 0
   SettledBy rows ns ws = Settled first_flows rows (length first_nodes) (length first_flows) first_nodes ns v.workspace ws
 
-  settled_firsts : (ns : List NodeRecord) (ws : List ℕ) → SettledBy v.steps ns ws → SettledAgain (After (ns ++ drop v.node_count v.nodes) v.flows ws)
-  settled_firsts ns ws done =
-      settled_here (ns ++ drop v.node_count v.nodes) ws (after_settled _ _ _ _ _ _ fitting.nodes_room fitting.flows_room _ _ done)
-
   -- the same where the first alone were handed over, and those past them were not
   pub spread_again : {T E : Type 0} (r : Result T E) (rows : List (List ℕ)) (ns : List NodeRecord) (ws : List ℕ) → rows ≡ v.steps
       → (Fitting (whole first_nodes first_flows rows) v.workspace → IsOk r) → OnOk r (SettledBy rows ns ws)
       → SettledAgain (After (ns ++ drop v.node_count v.nodes) v.flows ws)
   spread_again r rows ns ws is ok done =
-      let fit = subst (λ (x : List (List ℕ)). Fitting (whole first_nodes first_flows x) v.workspace) (sym is)
-      (fits_first _ _ _ _ _ _ fitting.nodes_room fitting.flows_room fitting) in
-      settled_firsts ns ws (subst (λ (x : List (List ℕ)). SettledBy x ns ws) is (on_ok r done (ok fit)))
+      let nodes = fitting.nodes_room in
+      let flows = fitting.flows_room in
+      spread_counted_again r rows (ns ++ drop v.node_count v.nodes) ws is (λ fit. ok (fits_first _ _ _ _ _ _ nodes flows fit))
+      (on_ok_weaker r (after_settled _ _ _ _ _ _ nodes flows ns ws) done)
